@@ -7,7 +7,7 @@
 ghost use Rattle.std.specs.Prelude.{◌≡◌, ◌==◌, ◌&&◌, ◌/◌, ◌%◌, ◌^◌, ◌<◌, ◌≤◌, ◌+◌};
 ghost use Rattle.rv_decode.specs.declared.Format.TheVariants.{Register, Immediate, Shift, ShiftWord, Store, Branch, Upper, Jump, Whole, Reserve, Atomic};
 ghost use Rattle.rv_decode.specs.Fields.{bits_of, opcode_of, sign_extended, imm_i, imm_s, imm_b, imm_u, imm_j};
-ghost use Rattle.rv_decode.specs.Rows.{name_by, branch_rows, load_rows, store_rows, immediate_rows, shift_rows, register_rows, shift_word_rows, register_word_rows, atomic_rows, operands_of, decode_of};
+ghost use Rattle.rv_decode.specs.Rows.{name_by, branch_rows, load_rows, store_rows, immediate_rows, shift_rows, register_rows, immediate_word_rows, shift_word_rows, register_word_rows, atomic_rows, system_rows, reserve_rows, operands_of, decode_of};
 
 /// The instructions of RV64I and of the extension for atomics, by the manual's names.
 #[derive(Clone, Copy, PartialEq, Eq, Debug)]
@@ -404,6 +404,15 @@ fn immediate_name(funct3: u32) -> Option<Op>
     }
 }
 
+fn immediate_word_name(funct3: u32) -> Option<Op>
+    ensures { result ≡ name_by (λ r. funct3 == r.funct3) immediate_word_rows }
+{
+    match funct3 {
+        0b000 => Some(Op::Addiw),
+        _ => None,
+    }
+}
+
 fn shift_name(funct3: u32, funct6: u32) -> Option<Op>
     ensures { result ≡ name_by (λ r. (funct3 == r.funct3) && (funct6 == r.above)) shift_rows }
 {
@@ -481,6 +490,172 @@ fn atomic_name(funct3: u32, funct5: u32) -> Option<Op>
         (0b011, 0b10100) => Some(Op::AmomaxD),
         (0b011, 0b11000) => Some(Op::AmominuD),
         (0b011, 0b11100) => Some(Op::AmomaxuD),
+        _ => None,
+    }
+}
+
+// The system words are one word each: all but bits 20 to 31 is 0 above the opcode.
+fn system_name(rest: u32, funct12: u32) -> Option<Op>
+    ensures { result ≡ name_by (λ r. (rest == 0) && (funct12 == r.above)) system_rows }
+{
+    match (rest, funct12) {
+        (0, 0) => Some(Op::Ecall),
+        (0, 1) => Some(Op::Ebreak),
+        _ => None,
+    }
+}
+
+// A load-reserved has no second source register.
+fn reserve_name(funct3: u32, funct5: u32, rs2: u32) -> Option<Op>
+    ensures { result ≡ name_by (λ r. (funct3 == r.funct3) && ((funct5 == r.above) && (rs2 == 0))) reserve_rows }
+{
+    match (funct3, funct5, rs2) {
+        (0b010, 0b00010, 0) => Some(Op::LrW),
+        (0b011, 0b00010, 0) => Some(Op::LrD),
+        _ => None,
+    }
+}
+
+// ---- the words of each opcode
+
+#[tactic(auto, using(crate::proofs::Groups::decode_branch))]
+fn branch(word: u32) -> Option<Instr>
+    requires { opcode_of word ≡ 0b1100011 }
+    ensures { result ≡ decode_of word }
+{
+    let op = branch_name(bits(word, 12, 3))?;
+    Some(branch_form(op, word))
+}
+
+#[tactic(auto, using(crate::proofs::Groups::decode_load))]
+fn load(word: u32) -> Option<Instr>
+    requires { opcode_of word ≡ 0b0000011 }
+    ensures { result ≡ decode_of word }
+{
+    let op = load_name(bits(word, 12, 3))?;
+    Some(immediate_form(op, word))
+}
+
+#[tactic(auto, using(crate::proofs::Groups::decode_store))]
+fn store(word: u32) -> Option<Instr>
+    requires { opcode_of word ≡ 0b0100011 }
+    ensures { result ≡ decode_of word }
+{
+    let op = store_name(bits(word, 12, 3))?;
+    Some(store_form(op, word))
+}
+
+#[tactic(auto, using(crate::proofs::Groups::decode_register))]
+fn register_op(word: u32) -> Option<Instr>
+    requires { opcode_of word ≡ 0b0110011 }
+    ensures { result ≡ decode_of word }
+{
+    let op = register_name(bits(word, 12, 3), bits(word, 25, 7))?;
+    Some(register_form(op, word))
+}
+
+#[tactic(auto, using(crate::proofs::Groups::decode_register_word))]
+fn register_word_op(word: u32) -> Option<Instr>
+    requires { opcode_of word ≡ 0b0111011 }
+    ensures { result ≡ decode_of word }
+{
+    let op = register_word_name(bits(word, 12, 3), bits(word, 25, 7))?;
+    Some(register_form(op, word))
+}
+
+#[tactic(auto, using(crate::proofs::Groups::decode_system))]
+fn system(word: u32) -> Option<Instr>
+    requires { opcode_of word ≡ 0b1110011 }
+    ensures { result ≡ decode_of word }
+{
+    let op = system_name(bits(word, 7, 13), bits(word, 20, 12))?;
+    Some(whole_form(op, word))
+}
+
+#[tactic(auto, using(crate::proofs::Groups::decode_jalr))]
+fn jump_register(word: u32) -> Option<Instr>
+    requires { opcode_of word ≡ 0b1100111 }
+    ensures { result ≡ decode_of word }
+{
+    if bits(word, 12, 3) == 0 {
+        Some(immediate_form(Op::Jalr, word))
+    } else {
+        None
+    }
+}
+
+#[tactic(auto, using(crate::proofs::Groups::decode_fence))]
+fn fence(word: u32) -> Option<Instr>
+    requires { opcode_of word ≡ 0b0001111 }
+    ensures { result ≡ decode_of word }
+{
+    if bits(word, 12, 3) == 0 {
+        Some(immediate_form(Op::Fence, word))
+    } else {
+        None
+    }
+}
+
+#[tactic(auto, using(crate::proofs::Groups::decode_immediate))]
+fn immediate_op(word: u32) -> Option<Instr>
+    requires { opcode_of word ≡ 0b0010011 }
+    ensures { result ≡ decode_of word }
+{
+    let funct3 = bits(word, 12, 3);
+    if let Some(op) = immediate_name(funct3) {
+        return Some(immediate_form(op, word));
+    }
+    let op = shift_name(funct3, bits(word, 26, 6))?;
+    Some(shift_form(op, word))
+}
+
+#[tactic(auto, using(crate::proofs::Groups::decode_immediate_word))]
+fn immediate_word_op(word: u32) -> Option<Instr>
+    requires { opcode_of word ≡ 0b0011011 }
+    ensures { result ≡ decode_of word }
+{
+    let funct3 = bits(word, 12, 3);
+    if let Some(op) = immediate_word_name(funct3) {
+        return Some(immediate_form(op, word));
+    }
+    let op = shift_word_name(funct3, bits(word, 25, 7))?;
+    Some(shift_word_form(op, word))
+}
+
+#[tactic(auto, using(crate::proofs::Groups::decode_reserve))]
+fn atomic(word: u32) -> Option<Instr>
+    requires { opcode_of word ≡ 0b0101111 }
+    ensures { result ≡ decode_of word }
+{
+    let funct3 = bits(word, 12, 3);
+    let funct5 = bits(word, 27, 5);
+    if let Some(op) = reserve_name(funct3, funct5, bits(word, 20, 5)) {
+        return Some(reserve_form(op, word));
+    }
+    let op = atomic_name(funct3, funct5)?;
+    Some(atomic_form(op, word))
+}
+
+/// The instruction of a word: None exactly where no row of the manual's listing has the word.
+#[tactic(auto, using(crate::proofs::Groups::decode_lui, crate::proofs::Groups::decode_auipc, crate::proofs::Groups::decode_jal))]
+pub fn decode(word: u32) -> Option<Instr>
+    ensures { result ≡ decode_of word }
+{
+    match bits(word, 0, 7) {
+        0b0110111 => Some(upper_form(Op::Lui, word)),
+        0b0010111 => Some(upper_form(Op::Auipc, word)),
+        0b1101111 => Some(jump_form(Op::Jal, word)),
+        0b1100111 => jump_register(word),
+        0b1100011 => branch(word),
+        0b0000011 => load(word),
+        0b0100011 => store(word),
+        0b0010011 => immediate_op(word),
+        0b0110011 => register_op(word),
+        0b0011011 => immediate_word_op(word),
+        0b0111011 => register_word_op(word),
+        0b0001111 => fence(word),
+        0b1110011 => system(word),
+        0b0101111 => atomic(word),
         _ => None,
     }
 }
