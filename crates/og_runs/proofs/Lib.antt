@@ -4,7 +4,7 @@ pub mod Locals
 pub mod Forward
 -- what a run keeps
 pub mod Back
-pub mod Laws
+pub mod RunLaws
 -- data and histories go together
 pub mod Shown
 pub mod Whole
@@ -13,3 +13,5 @@ pub mod Views
 pub mod Seats
 pub mod Young
 pub mod Alike
+pub mod Stated
+pub mod StatedLogs

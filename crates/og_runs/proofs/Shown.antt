@@ -19,7 +19,7 @@ use Rattle.og_runs.proofs.Back.{IsTakeable, Stepped, stepped, has_id_push, sound
 slice_get_set : {X : Type 0} → (xs : List X) (p q : ℕ) (x : X) → p < length xs → slice_get (slice_set xs p x) q ≡ cond (nat_eq p q) (Some x) (slice_get xs q)
 slice_get_set xs p q x lt = grind (arith, nat_tests, common_steps, gets)
 
-abbrev or_else : {X : Type 0} → Option X → Option X → Option X
+abbrev pub or_else : {X : Type 0} → Option X → Option X → Option X
 or_else None y = y
 or_else (Some x) y = Some x
 
@@ -60,7 +60,7 @@ find_posted a c k (l ∷ ls) j (suc d) e f =
     let r : find j (posted a c (suc k) ls) ≡ slice_get (posted a c (suc k) ls) d = find_posted a c (suc k) ls j d e (omega arith) in rw (ne, r) refl
 
 -- and no others
-find_posted_none : {K : Type 0} → (a c k : ℕ) (ls : List (Letter K)) (j : MsgId) → (j.sender ≡ a → j.seq < k) → find j (posted a c k ls) ≡ None
+pub find_posted_none : {K : Type 0} → (a c k : ℕ) (ls : List (Letter K)) (j : MsgId) → (j.sender ≡ a → j.seq < k) → find j (posted a c k ls) ≡ None
 find_posted_none a c k [] j h = refl
 find_posted_none a c k (l ∷ ls) j h =
     let ne : same_id j (record { sender = a; seq = k }) ≡ false = at (nat_eq j.sender a) refl in
@@ -98,7 +98,7 @@ has_id_append {K} j (x ∷ ms) m = at (same_id j x.id) (same_id j m.id) (has_id_
     at true false h = refl
     at false y h = h
 
-abbrev is_of : {K : Type 0} → MsgId → Option (Msg K) → Bool
+abbrev pub is_of : {K : Type 0} → MsgId → Option (Msg K) → Bool
 is_of j None = false
 is_of j (Some m) = same_id j m.id
 

@@ -8,7 +8,7 @@ use Rattle.og_runs.specs.declared.Choice.TheVariants.{Act}
 use Rattle.og_runs.specs.declared.Event.{Event}
 use Rattle.og_runs.specs.Runs.{own_events, ClocksRise, Chain, NotAfter, Before, InOrder, Strict}
 use Rattle.og_runs.proofs.Locals.{own_events_rise}
-use Rattle.og_runs.proofs.Laws.{ClocksRiseStrictly}
+use Rattle.og_runs.proofs.RunLaws.{ClocksRiseStrictly}
 
 -- the events with that clock
 abbrev pub at_clock : {N : Type 0} → ℕ → List (Event N) → List (Event N)

@@ -7,7 +7,7 @@ use Rattle.og_runs.specs.declared.Event.{Event}
 use Rattle.og_runs.specs.Runs.{Rules, History, Histories, Local, start_history, start, LogsLead, EachTaken, Consistent, joined, IsSorted, choices}
 use Rattle.og_runs.specs.World.{World, Shows}
 use Rattle.og_runs.specs.Views.{View, LocalViews, sent_list, TakenOnce, ConsistentViews, logs_of, taken_list}
-use Rattle.og_runs.proofs.Laws.{start_sound}
+use Rattle.og_runs.proofs.RunLaws.{start_sound}
 use Rattle.og_runs.proofs.Shown.{DataRun}
 use Rattle.og_runs.proofs.Whole.{sorted_logs}
 
@@ -19,7 +19,7 @@ ends r f k (v ∷ vs) h a = cond (nat_eq k a) h.0.0 (ends r f (suc k) vs h.1 a)
 eq_self : (a : ℕ) → nat_eq a a ≡ true
 eq_self a = grind (arith, nat_tests)
 
-ends_lists : {A K N : Type 0} → (r : Rules A K N) (f : ℕ → A) (k : ℕ) (vs : List (View K N)) (h : LocalViews r f k vs) (j a : ℕ) → a ≡ k + j →
+pub ends_lists : {A K N : Type 0} → (r : Rules A K N) (f : ℕ → A) (k : ℕ) (vs : List (View K N)) (h : LocalViews r f k vs) (j a : ℕ) → a ≡ k + j →
     ((ends r f k vs h a).sent ≡ sent_list (slice_get vs j)) × ((ends r f k vs h a).taken ≡ taken_list (slice_get vs j))
 ends_lists r f k [] h j a e = (refl, refl)
 ends_lists {A} {K} r f k (v ∷ vs) h zero a e =

@@ -9,7 +9,7 @@ use Rattle.og_runs.specs.declared.Seat.{Seat}
 use Rattle.og_runs.specs.Runs.{Rules, History, Histories, Local, own_events, ClocksRise, Consistent, choices, IsSound, LogsLead, joined, IsSorted, same_stamp, InOrder, Strict}
 use Rattle.og_runs.specs.World.{World, world_step, WorldRun, Shows, Inside}
 use Rattle.og_runs.proofs.Locals.{move_made}
-use Rattle.og_runs.proofs.Laws.{ClocksRiseStrictly, log_rises}
+use Rattle.og_runs.proofs.RunLaws.{ClocksRiseStrictly, log_rises}
 use Rattle.og_runs.proofs.Sorts.{logs_stay, rising_ordered, strict_sorted, strictly_rises_on}
 use Rattle.og_runs.proofs.Forward.{merged}
 use Rattle.og_runs.proofs.Back.{locals, resorted, event_actor}
@@ -37,7 +37,7 @@ same_seats {A} {K} w u s x y size = same_list w.seats u.seats (λ a. at a (slice
     at a (Some p) e None f = let lt : a < length w.seats = slice_get_below w.seats a p e in let g : (z : Seat A) × (slice_get u.seats a ≡ Some z) = slice_get_some u.seats a (omega arith) in absurd (cc)
     at a None e (Some q) f = let lt : a < length u.seats = slice_get_below u.seats a q f in let g : (z : Seat A) × (slice_get w.seats a ≡ Some z) = slice_get_some w.seats a (omega arith) in absurd (cc)
 
-inside_none : {N : Type 0} → (n a : ℕ) (es : List (Event N)) → n ≤ a → Inside n es → own_events a es ≡ []
+pub inside_none : {N : Type 0} → (n a : ℕ) (es : List (Event N)) → n ≤ a → Inside n es → own_events a es ≡ []
 inside_none n a [] le h = refl
 inside_none {N} n a (e ∷ es) le h = let lt : e.stamp.actor < n = h.0 in let ne : nat_eq e.stamp.actor a ≡ false = grind (arith, nat_tests) in rw ne (inside_none n a es le h.1)
 

@@ -15,7 +15,7 @@ use Rattle.og_runs.proofs.Shown.{ShownRun, shown_run}
 abbrev pub ClocksBelow : {A K : Type 0} → ℕ → Histories A K → Type 0
 ClocksBelow c s = (a : ℕ) → (s a).clock ≤ c
 
-clock_after_below : {A K : Type 0} → (c : ℕ) (s : Histories A K) (a : ℕ) (v : Option (Msg K)) → IsSound s → ClocksBelow c s → IsTakeable s a v → clock_after (s a).clock v ≤ suc c
+pub clock_after_below : {A K : Type 0} → (c : ℕ) (s : Histories A K) (a : ℕ) (v : Option (Msg K)) → IsSound s → ClocksBelow c s → IsTakeable s a v → clock_after (s a).clock v ≤ suc c
 clock_after_below c s a None sound low f = let l : (s a).clock ≤ c = low a in omega arith
 clock_after_below {A} {K} c s a (Some m) sound low f =
     let l : (s a).clock ≤ c = low a in

@@ -17,6 +17,8 @@ ghost use Rattle.og_runs.specs.World.{find, without, events_of};
 
 use std::alloc::{AllocError, Global};
 
+pub mod laws;
+
 /// A message's name: its sender and its number among all that the sender ever sent, from 0.
 #[derive(Clone, Copy, PartialEq, Eq, Debug)]
 pub struct MsgId {
