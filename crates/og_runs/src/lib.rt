@@ -176,3 +176,6 @@ pub fn merge<N: Copy>(alloc: Global, logs: &[Log<N>]) -> Result<Vec<Event<N>>, A
     sort_events(&mut all)?;
     Ok(all)
 }
+
+#[cfg(test)]
+mod tests;
