@@ -7,16 +7,9 @@ use Rattle.rv_decode.specs.declared.Op.{Op}
 use Rattle.rv_decode.specs.declared.Op.TheVariants.{Lui, Auipc, Jal, Jalr, Beq, Bne, Blt, Bge, Bltu, Bgeu, Lb, Lh, Lw, Ld, Lbu, Lhu, Lwu, Sb, Sh, Sw, Sd, Addi, Slti, Sltiu, Xori, Ori, Andi, Slli, Srli, Srai, Add, Sll, Slt, Sltu, Xor, Srl, Or, And, Sub, Sra, Addiw, Slliw, Srliw, Sraiw, Addw, Sllw, Srlw, Subw, Sraw, Fence, Ecall, Ebreak, LrW, ScW, AmoswapW, AmoaddW, AmoxorW, AmoandW, AmoorW, AmominW, AmomaxW, AmominuW, AmomaxuW, LrD, ScD, AmoswapD, AmoaddD, AmoxorD, AmoandD, AmoorD, AmominD, AmomaxD, AmominuD, AmomaxuD}
 use Rattle.rv_decode.specs.declared.Format.{Format}
 use Rattle.rv_decode.specs.declared.Format.TheVariants.{Register, Immediate, Shift, ShiftWord, Store, Branch, Upper, Jump, Whole, Reserve, Atomic}
+use Rattle.rv_decode.specs.declared.Row.{Row}
 use Rattle.rv_decode.specs.declared.Instr.{Instr}
 use Rattle.rv_decode.specs.Fields.{bits_of, opcode_of, rd_of, funct3_of, rs1_of, rs2_of, funct5_of, funct6_of, funct7_of, aq_of, rl_of, imm_i, imm_s, imm_b, imm_u, imm_j}
-
--- a row of the listing
-pub record Row : Type 0 where
-  pub name : Op
-  pub format : Format
-  pub opcode : ℕ
-  pub funct3 : ℕ
-  pub above : ℕ
 
 abbrev pub row : Op → Format → ℕ → ℕ → ℕ → Row
 row name format opcode funct3 above = record {
