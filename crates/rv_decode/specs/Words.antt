@@ -110,6 +110,24 @@ fixed_of r = r.opcode + r.funct3 * 2 ^ 12
 abbrev pub sources_of : Instr → ℕ
 sources_of i = register_at i.rs1 15 + register_at i.rs2 20
 
+-- the bit at which a format's field above lies
+abbrev pub above_from : Format → ℕ
+above_from Register = 25
+above_from Immediate = 0
+above_from Shift = 26
+above_from ShiftWord = 25
+above_from Store = 0
+above_from Branch = 0
+above_from Upper = 0
+above_from Jump = 0
+above_from Whole = 20
+above_from Reserve = 27
+above_from Atomic = 27
+
+-- the field above, in its place
+abbrev pub above_of : Row → ℕ
+above_of r = r.above * 2 ^ above_from r.format
+
 -- the word of an instruction, by its format and its row
 abbrev pub word_of : Format → Row → Instr → ℕ
 word_of Register r i = fixed_of r + register_at i.rd 7 + sources_of i + r.above * 2 ^ 25

@@ -6,6 +6,7 @@
 
 ghost use Rattle.std.specs.Prelude.{◌≡◌};
 ghost use Rattle.rv_decode.specs.Rows.{decode_of};
+ghost use Rattle.rv_decode.specs.Words.{row_of, word_of};
 
 use crate::fields::bits;
 use crate::forms::{jump_form, upper_form};
@@ -13,12 +14,15 @@ use crate::opcodes::{
     atomic, branch, fence, immediate_op, immediate_word_op, jump_register, load, register_op,
     register_word_op, store, system,
 };
+use crate::rows::find_row;
+use crate::words::assemble;
 
 mod fields;
 mod forms;
 mod names;
 mod opcodes;
 mod rows;
+mod words;
 
 /// The instructions of RV64I and of the extension for atomics, by the manual's names.
 #[derive(Clone, Copy, PartialEq, Eq, Debug)]
@@ -177,4 +181,11 @@ pub fn decode(word: u32) -> Option<Instr>
         0b0101111 => atomic(word),
         _ => None,
     }
+}
+
+/// The word of an instruction: of one that some word decodes to, that word.
+pub fn encode(instr: &Instr) -> u32
+    ensures { result ≡ word_of (row_of instr.now.op).format (row_of instr.now.op) instr.now }
+{
+    assemble(&find_row(instr.op), instr)
 }

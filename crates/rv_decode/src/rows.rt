@@ -1,7 +1,7 @@
 // The listing as the encoder keeps it, in the order of the names.
 
-ghost use Rattle.std.specs.Prelude.{◌≡◌, ◌<◌};
-ghost use Rattle.rv_decode.specs.Words.{row_of};
+ghost use Rattle.std.specs.Prelude.{◌≡◌, ◌<◌, ◌^◌};
+ghost use Rattle.rv_decode.specs.Words.{above_of, row_of};
 
 use crate::{Format, Op, Row};
 
@@ -532,6 +532,7 @@ pub(crate) fn find_row(op: Op) -> Row
     ensures row { result ≡ row_of op }
     ensures opcode { result.opcode < 128 }
     ensures funct3 { result.funct3 < 8 }
+    ensures above { above_of result < 2 ^ 32 }
 {
     ROWS[op as usize]
 }
