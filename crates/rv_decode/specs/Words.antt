@@ -1,5 +1,5 @@
 -- The way back: the row of a name, and an instruction's fields in their places.
-use Rattle.std.specs.Prelude.{ℕ, ◌+◌, ◌*◌, ◌%◌, ◌^◌, Bool}
+use Rattle.std.specs.Prelude.{◌≡◌, ℕ, ◌+◌, ◌*◌, ◌%◌, ◌^◌, ◌<◌, Some}
 use Rattle.std.specs.Int.{w64, cast_unsigned, from_bool}
 use Rattle.rv_decode.specs.declared.Op.{Op}
 use Rattle.rv_decode.specs.declared.Op.TheVariants.{Lui, Auipc, Jal, Jalr, Beq, Bne, Blt, Bge, Bltu, Bgeu, Lb, Lh, Lw, Ld, Lbu, Lhu, Lwu, Sb, Sh, Sw, Sd, Addi, Slti, Sltiu, Xori, Ori, Andi, Slli, Srli, Srai, Add, Sll, Slt, Sltu, Xor, Srl, Or, And, Sub, Sra, Addiw, Slliw, Srliw, Sraiw, Addw, Sllw, Srlw, Subw, Sraw, Fence, Ecall, Ebreak, LrW, LrD, ScW, AmoswapW, AmoaddW, AmoxorW, AmoandW, AmoorW, AmominW, AmomaxW, AmominuW, AmomaxuW, ScD, AmoswapD, AmoaddD, AmoxorD, AmoandD, AmoorD, AmominD, AmomaxD, AmominuD, AmomaxuD}
@@ -8,7 +8,7 @@ use Rattle.rv_decode.specs.declared.Format.TheVariants.{Register, Immediate, Shi
 use Rattle.rv_decode.specs.declared.Row.{Row}
 use Rattle.rv_decode.specs.declared.Instr.{Instr}
 use Rattle.rv_decode.specs.Fields.{bits_of}
-use Rattle.rv_decode.specs.Rows.{row}
+use Rattle.rv_decode.specs.Rows.{row, decode_of}
 
 -- the row of a name
 unfoldable pub row_of : Op → Row
@@ -141,3 +141,11 @@ word_of Jump r i = r.opcode + register_at i.rd 7 + imm_at i 12 8 12 + imm_at i 1
 word_of Whole r i = r.opcode + r.above * 2 ^ 20
 word_of Reserve r i = fixed_of r + register_at i.rd 7 + register_at i.rs1 15 + ordering_at i + r.above * 2 ^ 27
 word_of Atomic r i = fixed_of r + register_at i.rd 7 + sources_of i + ordering_at i + r.above * 2 ^ 27
+
+-- the word of an instruction
+abbrev pub encode_of : Instr → ℕ
+encode_of i = word_of (row_of i.op).format (row_of i.op) i
+
+-- an instruction that some word decodes to encodes to that word
+abbrev pub EncodesBack : Instr → ℕ → Type 0
+EncodesBack i result = (word : ℕ) → word < 2 ^ 32 → decode_of word ≡ Some i → result ≡ word

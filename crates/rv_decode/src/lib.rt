@@ -6,7 +6,7 @@
 
 ghost use Rattle.std.specs.Prelude.{◌≡◌};
 ghost use Rattle.rv_decode.specs.Rows.{decode_of};
-ghost use Rattle.rv_decode.specs.Words.{row_of, word_of};
+ghost use Rattle.rv_decode.specs.Words.{encode_of, EncodesBack};
 
 use crate::fields::bits;
 use crate::forms::{jump_form, upper_form};
@@ -185,7 +185,8 @@ pub fn decode(word: u32) -> Option<Instr>
 
 /// The word of an instruction: of one that some word decodes to, that word.
 pub fn encode(instr: &Instr) -> u32
-    ensures { result ≡ word_of (row_of instr.now.op).format (row_of instr.now.op) instr.now }
+    ensures value { result ≡ encode_of instr.now }
+    ensures back { EncodesBack instr.now result }
 {
     assemble(&find_row(instr.op), instr)
 }
