@@ -1,5 +1,5 @@
 -- A word is its fields, put back in their places: what decodes encodes to the same word.
-use Rattle.std.proofs.Common.{◌≡◌, ℕ, ◌+◌, ◌-◌, ◌*◌, ◌/◌, ◌%◌, ◌^◌, ◌<◌, ◌≤◌, ◌⊎◌, Bool, true, false, nat_lt, cond, ◌&&◌, ◌==◌, inl, inr, pos, ◌-ℤ◌, ℤ, refl, ap, sym, subst, ◌∙◌, arith, Option, Some, None, List, [], ◌∷◌, map}
+use Rattle.std.proofs.Common.{◌≡◌, ℕ, ◌+◌, ◌*◌, ◌%◌, ◌^◌, ◌<◌, ◌≤◌, ◌⊎◌, Bool, true, false, cond, ◌&&◌, ◌==◌, inl, inr, refl, ap, subst, ◌∙◌, arith, Some, List, [], ◌∷◌, map}
 use Rattle.std.specs.Int.{w64, cast_unsigned, from_bool}
 use Rattle.std.specs.List.{find}
 use Rattle.std.specs.Option.{option_map}
@@ -10,7 +10,7 @@ use Rattle.rv_decode.specs.declared.Format.{Format}
 use Rattle.rv_decode.specs.declared.Format.TheVariants.{Register, Immediate, Shift, ShiftWord, Store, Branch, Upper, Jump, Whole, Reserve, Atomic}
 use Rattle.rv_decode.specs.declared.Row.{Row}
 use Rattle.rv_decode.specs.declared.Instr.{Instr}
-use Rattle.rv_decode.specs.Fields.{bits_of, sign_extended, opcode_of, funct3_of, funct5_of, funct6_of, funct7_of, rs1_of, rs2_of, rd_of}
+use Rattle.rv_decode.specs.Fields.{bits_of, sign_extended, opcode_of, funct3_of, funct5_of, funct6_of, funct7_of, rs2_of}
 use Rattle.rv_decode.specs.Rows.{rows, fits, has_fields, operands_of, read_by, decode_of}
 use Rattle.rv_decode.specs.Words.{row_of, word_of, encode_of}
 use Rattle.rv_decode.proofs.Groups.{first_true, second_true}
@@ -25,7 +25,7 @@ low_12 x h =
     let positive : x < 2 ^ 11 → cast_unsigned w64 (sign_extended 12 x) ≡ x = λ p. grind (arith, ints) in
     let negative : 2 ^ 11 ≤ x → cast_unsigned w64 (sign_extended 12 x) + 2 ^ 12 ≡ x + 2 ^ 64 = λ p. grind (arith, ints) in
     elim (cases_lt x (2 ^ 11)) [
-      inl p ↦ inl (let e = positive p in omega (arith, e))
+      | inl p ↦ inl (let e = positive p in omega (arith, e))
       | inr p ↦ inr (let e = negative p in omega (arith, e))
     ]
 
@@ -35,7 +35,7 @@ low_13 x h =
     let positive : x < 2 ^ 12 → cast_unsigned w64 (sign_extended 13 x) ≡ x = λ p. grind (arith, ints) in
     let negative : 2 ^ 12 ≤ x → cast_unsigned w64 (sign_extended 13 x) + 2 ^ 13 ≡ x + 2 ^ 64 = λ p. grind (arith, ints) in
     elim (cases_lt x (2 ^ 12)) [
-      inl p ↦ inl (let e = positive p in omega (arith, e))
+      | inl p ↦ inl (let e = positive p in omega (arith, e))
       | inr p ↦ inr (let e = negative p in omega (arith, e))
     ]
 
@@ -45,7 +45,7 @@ low_21 x h =
     let positive : x < 2 ^ 20 → cast_unsigned w64 (sign_extended 21 x) ≡ x = λ p. grind (arith, ints) in
     let negative : 2 ^ 20 ≤ x → cast_unsigned w64 (sign_extended 21 x) + 2 ^ 21 ≡ x + 2 ^ 64 = λ p. grind (arith, ints) in
     elim (cases_lt x (2 ^ 20)) [
-      inl p ↦ inl (let e = positive p in omega (arith, e))
+      | inl p ↦ inl (let e = positive p in omega (arith, e))
       | inr p ↦ inr (let e = negative p in omega (arith, e))
     ]
 
@@ -55,7 +55,7 @@ low_32 x h =
     let positive : x < 2 ^ 31 → cast_unsigned w64 (sign_extended 32 x) ≡ x = λ p. grind (arith, ints) in
     let negative : 2 ^ 31 ≤ x → cast_unsigned w64 (sign_extended 32 x) + 2 ^ 32 ≡ x + 2 ^ 64 = λ p. grind (arith, ints) in
     elim (cases_lt x (2 ^ 31)) [
-      inl p ↦ inl (let e = positive p in omega (arith, e))
+      | inl p ↦ inl (let e = positive p in omega (arith, e))
       | inr p ↦ inr (let e = negative p in omega (arith, e))
     ]
 
@@ -187,7 +187,7 @@ found word [] i all e = cc
 found word (r ∷ rs) i all e =
     let both : (b : Bool) → fits word r ≡ b → option_map (read_by word) (cond b (Some r) (find (fits word) rs)) ≡ Some i → (q : Row) × (fits word q ≡ true) × (row_of q.name ≡ q) × (read_by word q ≡ i) =
     λ b. elim b as (λ v. fits word r ≡ v → option_map (read_by word) (cond v (Some r) (find (fits word) rs)) ≡ Some i → (q : Row) × (fits word q ≡ true) × (row_of q.name ≡ q) × (read_by word q ≡ i)) [
-      true ↦ λ h k. (r, h, all.0, (cc))
+      | true ↦ λ h k. (r, h, all.0, (cc))
       | false ↦ λ h k. found word rs i all.1 k
     ] in
     both (fits word r) refl e

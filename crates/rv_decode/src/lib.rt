@@ -5,7 +5,8 @@
 #![tactic(auto)]
 
 ghost use Rattle.std.specs.Prelude.{◌≡◌};
-ghost use Rattle.rv_decode.specs.Rows.{decode_of};
+ghost use Rattle.byteorder.specs.Endian.{little_bytes, little_number};
+ghost use Rattle.rv_decode.specs.Rows.{decode_of, NoWordTwice};
 ghost use Rattle.rv_decode.specs.Words.{encode_of, EncodesBack};
 
 use crate::fields::bits;
@@ -16,6 +17,7 @@ use crate::opcodes::{
 };
 use crate::rows::find_row;
 use crate::words::assemble;
+use byteorder::{ByteOrder, LittleEndian};
 
 mod fields;
 mod forms;
@@ -189,4 +191,25 @@ pub fn encode(instr: &Instr) -> u32
     ensures back { EncodesBack instr.now result }
 {
     assemble(&find_row(instr.op), instr)
+}
+
+/// No word fits two rows of the listing.
+pub fn no_word_twice()
+    ensures { NoWordTwice }
+{}
+
+/// The instruction of four bytes, the lowest first.
+pub fn decode_bytes(bytes: &[u8; 4]) -> Option<Instr>
+    ensures { result ≡ decode_of (little_number 4 bytes.now) }
+{
+    decode(LittleEndian::read_u32(bytes))
+}
+
+/// The four bytes of an instruction, the lowest first.
+pub fn encode_bytes(instr: &Instr) -> [u8; 4]
+    ensures { result ≡ little_bytes 4 (encode_of instr.now) }
+{
+    let mut bytes = [0; 4];
+    LittleEndian::write_u32(&mut bytes, encode(instr));
+    bytes
 }

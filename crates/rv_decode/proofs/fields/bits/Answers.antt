@@ -1,4 +1,4 @@
-use Rattle.std.proofs.Common.{◌≡◌, ◌*◌, ◌%◌, ◌^◌, ◌<◌, arith}
+use Rattle.std.proofs.Common.{◌≡◌, ◌*◌, ◌%◌, ◌^◌}
 use Rattle.std.proofs.lemmas.Nat.{one_shl, and_mask}
 use Rattle.rv_decode.proofs.fields.bits.Goals as goal
 

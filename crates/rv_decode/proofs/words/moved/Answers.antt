@@ -1,5 +1,5 @@
 -- The moved bits fit the word, so that none is lost.
-use Rattle.std.proofs.Common.{◌≡◌, ◌*◌, ◌/◌, ◌%◌, ◌^◌, ◌<◌, arith}
+use Rattle.std.proofs.Common.{◌^◌, ◌<◌, arith}
 use Rattle.std.proofs.lemmas.Nat.{mod_below, pow_pos, shl_whole}
 use Rattle.rv_decode.specs.Fields.{bits_of}
 use Rattle.rv_decode.proofs.words.moved.Goals as goal

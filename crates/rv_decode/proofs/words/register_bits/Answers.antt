@@ -1,5 +1,5 @@
 -- The register's bits fit the word, so that none is lost.
-use Rattle.std.proofs.Common.{◌≡◌, ◌*◌, ◌%◌, ◌^◌, ◌<◌, arith}
+use Rattle.std.proofs.Common.{◌%◌, ◌^◌, ◌<◌, arith}
 use Rattle.std.proofs.lemmas.Nat.{shl_whole}
 use Rattle.rv_decode.proofs.words.register_bits.Goals as goal
 
