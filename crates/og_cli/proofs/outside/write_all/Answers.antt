@@ -1,0 +1,13 @@
+use Rattle.std.proofs.Common.{arith, List, ℕ, ◌≡◌, ◌++◌}
+use Rattle.std.proofs.Math.Path.{◌∙◌}
+use Rattle.og_cli.specs.Outside.{appended, AppendsPrefix}
+use Rattle.og_cli.proofs.Pieces.{on_err, prefix_of_split, split_more}
+use Rattle.og_cli.proofs.outside.write_all.Goals as goal
+
+pub returns-in_err-written-clause-prefix : goal.returns-in_err-written-clause-prefix
+returns-in_err-written-clause-prefix g c =
+    on_err c.from_residual.result (AppendsPrefix c.args.text.now (g.K.Sink.held c.args.sink.now) (g.K.Sink.held c.write_piece.new.sink))
+    (prefix_of_split c.args.text.now c.loop-rest.invariant.split.0 c.loop-rest.rest.now (g.K.Sink.held c.args.sink.now) (g.K.Sink.held c.write_piece.new.sink) c.loop-rest.invariant.split.1 (c.in_err-written.ensures.nothing ∙ c.loop-rest.invariant.split.2))
+
+pub loop-rest-preserved : goal.loop-rest-preserved
+loop-rest-preserved g c = record { split = split_more c.args.text.now c.loop-rest.invariant.split.0 c.loop-rest.rest.now c.in_ok-written.written (g.K.Sink.held c.args.sink.now) (g.K.Sink.held c.loop-rest.sink) (g.K.Sink.held c.write_piece.new.sink) c.loop-rest.invariant.split.1 c.loop-rest.invariant.split.2 c.in_ok-written.ensures.appends; faults_stay = omega arith; wants_stay = omega arith }

@@ -1,0 +1,13 @@
+use Rattle.std.proofs.Common.{arith}
+use Rattle.og_cli.proofs.Pieces.{piece_taken, piece_some, piece_appends}
+use Rattle.og_cli.proofs.outside.write_piece.Goals as goal
+
+pub returns-clause-taken : goal.returns-clause-taken
+returns-clause-taken g c = piece_taken c.write.result 65536 c.args.text.now c.first_piece.result.now c.first_piece.ensures c.write.ensures.taken
+
+pub returns-clause-some : goal.returns-clause-some
+returns-clause-some g c = piece_some c.write.result 65536 c.args.text.now c.first_piece.result.now (omega arith) c.first_piece.ensures c.write.ensures.some
+
+pub returns-clause-appends : goal.returns-clause-appends
+returns-clause-appends g c =
+    piece_appends c.write.result 65536 c.args.text.now c.first_piece.result.now (g.K.Sink.held c.args.sink.now) (g.K.Sink.held c.write.new.self) c.first_piece.ensures c.write.ensures.taken c.write.ensures.appends

@@ -1,0 +1,118 @@
+//! The outside: a shelf that gives files and a sink that takes bytes, as traits, so that a test can
+//! stand in for files and streams.
+//!
+//! What the real ones read and write no contract can say. So a shelf says what its files are only
+//! where it tells them, and a sink what it holds only where it tells it. A fault is never free: a
+//! shelf keeps the names that it failed at, and a sink counts its faults.
+
+ghost use Rattle.std.specs.Prelude.{◌≡◌, ◌≢◌, ℕ, ◌≤◌, List, [], length, take, Option, Ok, Err, OnOk, OnErr, IfOk, vec_len};
+ghost use Rattle.og_cli.specs.Outside.{Files, HasFile, HasLongFile, AddsName, AddsAtMost, appended, AppendsPrefix, Rises};
+
+use std::alloc::Global;
+
+pub mod memory;
+pub mod real;
+
+/// Why a shelf gives no file.
+#[derive(Clone, Copy, PartialEq, Eq, Debug)]
+pub enum ShelfFault {
+    /// The file could not be read. Its name is among the failed ones.
+    Failed,
+    /// The file has more bytes than the limit.
+    TooLong,
+    /// Want of memory.
+    Memory,
+}
+
+/// Why a sink takes nothing.
+#[derive(Clone, Copy, PartialEq, Eq, Debug)]
+pub enum SinkFault {
+    /// It could not write. Its count of faults rose.
+    Failed,
+    /// Want of memory. Its count of wants rose.
+    Memory,
+}
+
+/// Files by their names.
+pub trait Shelf {
+    // the files, where they are told
+    ghost files: { Self → Option Files };
+
+    // the names whose fetch failed, in their order
+    ghost failed: { Self → List (List ℕ) };
+
+    /// The bytes of the file with this name, at most `limit`.
+    fn fetch(&mut self, alloc: Global, name: &str, limit: u64) -> Result<Vec<u8>, ShelfFault>
+        ensures unchanged { files self.new ≡ files self.old }
+        ensures failed_grows { AddsAtMost name.now (failed self.old) (failed self.new) }
+        ensures bytes { IfOk result (λ bytes. HasFile (files self.old) name.now bytes.items) }
+        ensures within { IfOk result (λ bytes. vec_len bytes ≤ limit) }
+        ensures added { result ≡ Err ShelfFault.Failed → AddsName name.now (failed self.old) (failed self.new) }
+        ensures too_long { result ≡ Err ShelfFault.TooLong → HasLongFile (files self.old) name.now limit };
+}
+
+/// What takes bytes, and may take fewer than it is given.
+pub trait Sink {
+    // the bytes that it holds, where they are told
+    ghost held: { Self → Option (List ℕ) };
+
+    // how often it failed to write
+    ghost faults: { Self → ℕ };
+
+    // how often it wanted memory
+    ghost wants: { Self → ℕ };
+
+    /// Takes some first bytes of the piece, at least one unless it is empty, and says how many.
+    fn write(&mut self, piece: &[u8]) -> Result<usize, SinkFault>
+        ensures empty { piece.now ≡ [] → (result ≡ Ok 0) × (held self.new ≡ held self.old) × (faults self.new ≡ faults self.old) × (wants self.new ≡ wants self.old) }
+        ensures taken { IfOk result (λ n. n ≤ length piece.now) }
+        ensures some { piece.now ≢ [] → IfOk result (λ n. 1 ≤ n) }
+        ensures appends { IfOk result (λ n. held self.new ≡ appended (held self.old) (take n piece.now)) }
+        ensures nothing { OnErr result (held self.new ≡ held self.old) }
+        ensures fault { result ≡ Err SinkFault.Failed → Rises (faults self.old) (faults self.new) }
+        ensures want { result ≡ Err SinkFault.Memory → Rises (wants self.old) (wants self.new) }
+        ensures faults_stay { faults self.old ≤ faults self.new }
+        ensures wants_stay { wants self.old ≤ wants self.new };
+}
+
+/// The most that is handed to a sink at once.
+const PIECE_BYTES: usize = 65_536;
+
+// The first bytes of the text, as many as are handed to a sink at once.
+fn first_piece(text: &[u8]) -> &[u8]
+    ensures { result.now ≡ take PIECE_BYTES text.now }
+{
+    &text[..text.len().min(PIECE_BYTES)]
+}
+
+// Hands the first bytes of the text to the sink, and says how many it took.
+fn write_piece<K: Sink>(sink: &mut K, text: &[u8]) -> Result<usize, SinkFault>
+    ensures taken { IfOk result (λ n. n ≤ length text.now) }
+    ensures some { text.now ≢ [] → IfOk result (λ n. 1 ≤ n) }
+    ensures appends { IfOk result (λ n. K.held sink.new ≡ appended (K.held sink.old) (take n text.now)) }
+    ensures nothing { OnErr result (K.held sink.new ≡ K.held sink.old) }
+    ensures fault { result ≡ Err SinkFault.Failed → Rises (K.faults sink.old) (K.faults sink.new) }
+    ensures want { result ≡ Err SinkFault.Memory → Rises (K.wants sink.old) (K.wants sink.new) }
+    ensures faults_stay { K.faults sink.old ≤ K.faults sink.new }
+    ensures wants_stay { K.wants sink.old ≤ K.wants sink.new }
+{
+    sink.write(first_piece(text))
+}
+
+/// Writes the whole text, in pieces of at most 65,536 bytes. After a refusal some first bytes of the
+/// text were appended, and the fault is that of the sink's last call.
+pub fn write_all<K: Sink>(sink: &mut K, text: &[u8]) -> Result<(), SinkFault>
+    ensures whole { OnOk result (K.held sink.new ≡ appended (K.held sink.old) text.now) }
+    ensures prefix { OnErr result (AppendsPrefix text.now (K.held sink.old) (K.held sink.new)) }
+    ensures fault { result ≡ Err SinkFault.Failed → Rises (K.faults sink.old) (K.faults sink.new) }
+    ensures want { result ≡ Err SinkFault.Memory → Rises (K.wants sink.old) (K.wants sink.new) }
+    ensures faults_stay { K.faults sink.old ≤ K.faults sink.new }
+    ensures wants_stay { K.wants sink.old ≤ K.wants sink.new }
+{
+    let mut rest = text;
+    while !rest.is_empty() {
+        let written = write_piece(sink, rest)?;
+        rest = &rest[written..];
+    }
+    Ok(())
+}
