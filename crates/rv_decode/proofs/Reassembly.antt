@@ -1,5 +1,5 @@
 -- A word is its fields, put back in their places: what decodes encodes to the same word.
-use Rattle.std.proofs.Common.{◌≡◌, ℕ, ◌+◌, ◌*◌, ◌%◌, ◌^◌, ◌<◌, ◌≤◌, ◌⊎◌, Bool, true, false, cond, ◌&&◌, ◌==◌, inl, inr, refl, ap, subst, ◌∙◌, arith, Some, List, [], ◌∷◌, map}
+use Rattle.std.proofs.Common.{◌≡◌, ℕ, ◌+◌, ◌*◌, ◌%◌, ◌^◌, ◌<◌, ◌≤◌, ◌⊎◌, Bool, true, false, cond, ◌&&◌, ◌==◌, inl, inr, refl, ap, sym, subst, ◌∙◌, arith, Some, None, Option, IfSome, List, [], ◌∷◌, map}
 use Rattle.std.specs.Int.{w64, cast_unsigned, from_bool}
 use Rattle.std.specs.List.{find}
 use Rattle.std.specs.Option.{option_map}
@@ -11,7 +11,7 @@ use Rattle.rv_decode.specs.declared.Format.TheVariants.{Register, Immediate, Shi
 use Rattle.rv_decode.specs.declared.Row.{Row}
 use Rattle.rv_decode.specs.declared.Instr.{Instr}
 use Rattle.rv_decode.specs.Fields.{bits_of, sign_extended, opcode_of, funct3_of, funct5_of, funct6_of, funct7_of, rs2_of}
-use Rattle.rv_decode.specs.Rows.{rows, fits, has_fields, operands_of, read_by, decode_of}
+use Rattle.rv_decode.specs.Rows.{rows, fits, has_fields, HasRegisters, operands_of, read_by, decode_of}
 use Rattle.rv_decode.specs.Words.{row_of, word_of, encode_of}
 use Rattle.rv_decode.proofs.Groups.{first_true, second_true}
 
@@ -219,3 +219,19 @@ encode_back word i below e =
     let opcode : opcode_of word ≡ r.opcode = eq_left (opcode_of word) r.opcode (has_fields r.format r word) f.1 in
     let fields : has_fields r.format r word ≡ true = second_true (opcode_of word == r.opcode) (has_fields r.format r word) f.1 in
     subst (λ x. encode_of x ≡ word) f.3 (encode_row word r f.2 (back r.format r word below opcode fields))
+
+-- each operand that names a register is below 32
+registers_below : (format : Format) (op : Op) (word : ℕ) → HasRegisters (operands_of format op word)
+registers_below Register op word = record { rd = omega arith; rs1 = omega arith; rs2 = omega arith }
+registers_below _ op word = record { rd = omega arith; rs1 = omega arith; rs2 = omega arith }
+
+decode_registers : (word : ℕ) (i : Instr) → decode_of word ≡ Some i → HasRegisters i
+unfolding decode_of rows row_of
+decode_registers word i e =
+    let f = found word rows i (named rows refl) e in
+    let r : Row = f.0 in
+    subst HasRegisters f.3 (registers_below r.format r.name word)
+
+pub decoded_registers : (word : ℕ) (o : Option Instr) → o ≡ decode_of word → IfSome o HasRegisters
+decoded_registers word None e = tt
+decoded_registers word (Some i) e = decode_registers word i (sym e)

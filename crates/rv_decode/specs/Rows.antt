@@ -1,7 +1,7 @@
 -- The instructions of RV64IA, row by row (RISC-V unprivileged manual, "RV32/64G Instruction Set Listings"): the format,
 -- the opcode in bits 0 to 6, funct3 in bits 12 to 14, and what the format has above: funct7 in bits 25 to 31, the six
 -- bits above a shift amount, or the five bits that name an atomic. A field that a row's format hasn't is 0.
-use Rattle.std.specs.Prelude.{ℕ, ◌==◌, ◌&&◌, Bool, true, false, pos, List, [], ◌∷◌, ◌++◌, ◌≤◌, length, filter, Option, find}
+use Rattle.std.specs.Prelude.{ℕ, ◌==◌, ◌&&◌, Bool, true, false, pos, List, [], ◌∷◌, ◌++◌, ◌<◌, ◌≤◌, length, filter, Option, find}
 use Rattle.std.specs.Option.{option_map}
 use Rattle.rv_decode.specs.declared.Op.{Op}
 use Rattle.rv_decode.specs.declared.Op.TheVariants.{Lui, Auipc, Jal, Jalr, Beq, Bne, Blt, Bge, Bltu, Bgeu, Lb, Lh, Lw, Ld, Lbu, Lhu, Lwu, Sb, Sh, Sw, Sd, Addi, Slti, Sltiu, Xori, Ori, Andi, Slli, Srli, Srai, Add, Sll, Slt, Sltu, Xor, Srl, Or, And, Sub, Sra, Addiw, Slliw, Srliw, Sraiw, Addw, Sllw, Srlw, Subw, Sraw, Fence, Ecall, Ebreak, LrW, ScW, AmoswapW, AmoaddW, AmoxorW, AmoandW, AmoorW, AmominW, AmomaxW, AmominuW, AmomaxuW, LrD, ScD, AmoswapD, AmoaddD, AmoxorD, AmoandD, AmoorD, AmominD, AmomaxD, AmominuD, AmomaxuD}
@@ -214,3 +214,9 @@ decode_of word = option_map (read_by word) (find (fits word) rows)
 -- no word fits two rows
 abbrev pub NoWordTwice : Type 0
 NoWordTwice = (word : ℕ) → length (filter (fits word) rows) ≤ 1
+
+-- the operands that name registers
+pub record HasRegisters (i : Instr) : Type 0 where
+  pub rd : i.rd < 32
+  pub rs1 : i.rs1 < 32
+  pub rs2 : i.rs2 < 32

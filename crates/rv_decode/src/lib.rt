@@ -4,9 +4,9 @@
 //! bit fields of a word apart. Nothing of the machine stands below this crate; the hart stands above.
 #![tactic(auto)]
 
-ghost use Rattle.std.specs.Prelude.{◌≡◌};
+ghost use Rattle.std.specs.Prelude.{◌≡◌, IfSome};
 ghost use Rattle.byteorder.specs.Endian.{little_bytes, little_number};
-ghost use Rattle.rv_decode.specs.Rows.{decode_of, NoWordTwice};
+ghost use Rattle.rv_decode.specs.Rows.{decode_of, HasRegisters, NoWordTwice};
 ghost use Rattle.rv_decode.specs.Words.{encode_of, EncodesBack};
 
 use crate::fields::bits;
@@ -161,9 +161,9 @@ pub struct Row {
     pub above: u32,
 }
 
-/// The instruction of a word: None exactly where no row of the manual's listing has the word.
+// The instruction of a word, opcode by opcode.
 #[tactic(auto, using(crate::proofs::Groups::decode_lui, crate::proofs::Groups::decode_auipc, crate::proofs::Groups::decode_jal))]
-pub fn decode(word: u32) -> Option<Instr>
+fn by_opcode(word: u32) -> Option<Instr>
     ensures { result ≡ decode_of word }
 {
     match bits(word, 0, 7) {
@@ -183,6 +183,14 @@ pub fn decode(word: u32) -> Option<Instr>
         0b0101111 => atomic(word),
         _ => None,
     }
+}
+
+/// The instruction of a word: None exactly where no row of the manual's listing has the word.
+pub fn decode(word: u32) -> Option<Instr>
+    ensures value { result ≡ decode_of word }
+    ensures registers { IfSome result HasRegisters }
+{
+    by_opcode(word)
 }
 
 /// The word of an instruction: of one that some word decodes to, that word.
