@@ -1,3 +1,5 @@
 pub mod Image
 pub mod Raw
 pub mod Layout
+pub mod Effect
+pub mod Work

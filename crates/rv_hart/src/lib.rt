@@ -5,6 +5,8 @@
 //! the machine and the lines of memory; above stands the machine.
 #![tactic(auto)]
 
+mod compute;
 pub mod image;
 pub mod layout;
 pub mod raw;
+mod work;

@@ -1,5 +1,5 @@
 use Rattle.std.proofs.Math.Nat.{mul-le-mul_left}
-use Rattle.std.proofs.Common.{◌≡◌, ◌≤◌, ◌*◌, arith, subst, List, ℕ, sym}
+use Rattle.std.proofs.Common.{◌≤◌, ◌*◌, arith, subst, List, ℕ, sym}
 use Rattle.std.specs.List.Sorted.{IsStrictlyIncreasing}
 use Rattle.rv_hart.proofs.Pages.{pages_rise}
 use Rattle.rv_hart.proofs.layout.Layout.make.Goals as goal
