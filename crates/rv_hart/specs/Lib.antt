@@ -3,3 +3,4 @@ pub mod Raw
 pub mod Layout
 pub mod Effect
 pub mod Work
+pub mod Hart

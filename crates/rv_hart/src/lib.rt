@@ -6,6 +6,7 @@
 #![tactic(auto)]
 
 mod compute;
+pub mod hart;
 pub mod image;
 pub mod layout;
 pub mod raw;
