@@ -3,11 +3,11 @@
 //! It asks for what its next instruction needs, and executes it once that is there. Decoding and
 //! executing take no memory and look nothing up in a map.
 
-ghost use Rattle.std.specs.Prelude.{◌≡◌, ◌≢◌, ◌<◌, ◌^◌, ℕ, slice_index, Some, None, true};
+ghost use Rattle.std.specs.Prelude.{◌≡◌, ◌≢◌, ◌<◌, ◌≤◌, ◌^◌, ℕ, slice_index, Some, None, true};
 ghost use Rattle.og_line.specs.declared.Access.{Access};
-ghost use Rattle.og_line.specs.Access.{IsAligned, addr_of, width_of, operand_of};
+ghost use Rattle.og_line.specs.Access.{HasWidth, IsAligned, addr_of, width_of, operand_of};
 ghost use Rattle.rv_hart.specs.Image.{is_data_of};
-ghost use Rattle.rv_hart.specs.Hart.{HartState, IsStop, start_of, need_of, finish_of, halt_of};
+ghost use Rattle.rv_hart.specs.Hart.{HartState, IsStop, call_need, constant_of, access_need, start_of, need_of, finish_of, halt_of};
 
 use crate::compute::{jump_target, memory_access, result_value};
 use crate::image::Image;
@@ -76,6 +76,17 @@ impl Hart {
         }
     }
 
+    // An environment call: exit, emit, or one that isn't known.
+    fn call_need(&self) -> Need
+        ensures { result ≡ call_need self.now }
+    {
+        match self.regs[17] {
+            EXIT => Need::Stop(Cause::Exit(self.regs[10])),
+            EMIT => Need::Emit(self.regs[10]),
+            _ => Need::Stop(Cause::Call),
+        }
+    }
+
     /// Why the hart stopped, if it did.
     pub fn stopped(&self) -> Option<Cause>
         ensures { result ≡ self.now.cause }
@@ -97,5 +108,32 @@ impl Hart {
         ensures { result ≡ self.now.pc }
     {
         self.pc
+    }
+}
+
+// An access: misaligned, a load of read-only bytes, outside the data and stack pages, or made.
+fn access_need(image: &Image, access: Access) -> Need
+    requires { HasWidth access }
+    ensures { result ≡ access_need image.now access }
+{
+    if !access.addr().is_multiple_of(u64::from(access.width())) {
+        Need::Stop(Cause::Misaligned)
+    } else if constant(image, &access).is_some() {
+        Need::Plain
+    } else if image.is_data(access.addr()) {
+        Need::Access(access)
+    } else {
+        Need::Stop(Cause::Unmapped)
+    }
+}
+
+// A load of bytes that no segment may write: its answer.
+fn constant(image: &Image, access: &Access) -> Option<u64>
+    requires { width_of access.now ≤ 8 }
+    ensures { result ≡ constant_of image.now access.now }
+{
+    match *access {
+        Access::Load { addr, width } => image.read_only(addr, width),
+        _ => None,
     }
 }
