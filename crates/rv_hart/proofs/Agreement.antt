@@ -1,7 +1,7 @@
 -- What the code of a hart goes by agrees with what each operation is to do.
 use Rattle.std.proofs.Common.{◌≡◌, ℕ, true, refl, arith}
 use Rattle.std.proofs.lemmas.Grind.{common_steps}
-use Rattle.og_line.specs.Line.{IsWidth}
+use Rattle.og_line.specs.Line.{IsWidth, IsAtomicWidth}
 use Rattle.rv_decode.specs.declared.Op.{Op}
 use Rattle.rv_decode.specs.declared.Op.TheVariants.{Lui}
 use Rattle.rv_hart.specs.Effect.{value_of, access_of, target_of}
@@ -12,6 +12,9 @@ width_known width h = grind (arith, common_steps)
 
 pub atomic_width_known : (width : ℕ) → is_atomic_width width ≡ true → IsWidth width
 atomic_width_known width h = grind (arith, common_steps)
+
+pub both_widths_known : (width : ℕ) → is_atomic_width width ≡ true → IsAtomicWidth width
+both_widths_known width h = grind (arith, common_steps)
 
 -- ---- operation by operation
 

@@ -2,3 +2,4 @@ pub mod Numbers
 pub mod Pages
 pub mod Programs
 pub mod Agreement
+pub mod Needs

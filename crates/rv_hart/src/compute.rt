@@ -1,6 +1,7 @@
 // What an instruction computes: the value of its result, its access and its target.
 
-ghost use Rattle.std.specs.Prelude.{◌≡◌, true};
+ghost use Rattle.std.specs.Prelude.{◌≡◌, IfSome, true};
+ghost use Rattle.og_line.specs.Access.{HasWidth};
 ghost use Rattle.rv_hart.specs.Effect.{byte_extended, half_extended, word_extended};
 ghost use Rattle.rv_hart.specs.Work.{access_by, alu_value, extended, is_met, is_width_known, target_by, value_by, word_alu_value};
 
@@ -118,10 +119,11 @@ pub(crate) fn result_value(
 }
 
 // The access to memory, where there is one.
-#[tactic(auto, using(crate::proofs::Agreement::width_known, crate::proofs::Agreement::atomic_width_known), unfolding(crate::specs::Work::access_by))]
+#[tactic(auto, using(crate::proofs::Agreement::width_known, crate::proofs::Agreement::atomic_width_known, crate::proofs::Agreement::both_widths_known), unfolding(crate::specs::Work::access_by))]
 pub(crate) fn memory_access(work: Work, imm: u64, a: u64, b: u64) -> Option<Access>
     requires { is_width_known work ≡ true }
-    ensures { result ≡ access_by work imm a b }
+    ensures value { result ≡ access_by work imm a b }
+    ensures width { IfSome result HasWidth }
 {
     match work {
         Work::Load { width, .. } => Some(Access::Load {
