@@ -16,6 +16,9 @@ ghost use Rattle.og_line.specs.Laws.{StoredIsLoaded, OtherBytesStay, StoresAreCo
 
 use byteorder::{ByteOrder, LittleEndian};
 
+#[cfg(test)]
+mod tests;
+
 /// The bytes of a line.
 pub const LINE_BYTES: u64 = 128;
 
