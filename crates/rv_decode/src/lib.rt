@@ -24,6 +24,8 @@ mod forms;
 mod names;
 mod opcodes;
 mod rows;
+#[cfg(test)]
+mod tests;
 mod words;
 
 /// The instructions of RV64I and of the extension for atomics, by the manual's names.
