@@ -8,31 +8,31 @@ use Rattle.og_block.specs.Invariant.{Local, Home}
 
 module _ {L : Type 0} where
   pub home_kept : (n : ℕ) (f : L) (b : Block L) (r : Row L) → guard r b → actor_of r < n → Home n f b → Local n f b (actor_of r) → Home n (flat_after r f) (apply n r b)
-  home_kept n f b (Send_read p) g lp home hp = grind (arith, nat_tests)
-  home_kept n f b (Send_read_exclusive p) g lp home hp = grind (arith, nat_tests)
-  home_kept n f b (Send_upgrade p l) g lp home hp = grind (arith, nat_tests)
-  home_kept n f b (Load_shared p l) g lp home hp = grind (arith, nat_tests)
-  home_kept n f b (Load_clean p l) g lp home hp = grind (arith, nat_tests)
-  home_kept n f b (Load_dirty p l) g lp home hp = grind (arith, nat_tests)
+  home_kept n f b (Send_read p) g lp home hp = record { revised = home.revised; inside = home.inside; memory = home.memory }
+  home_kept n f b (Send_read_exclusive p) g lp home hp = record { revised = home.revised; inside = home.inside; memory = home.memory }
+  home_kept n f b (Send_upgrade p l) g lp home hp = record { revised = home.revised; inside = home.inside; memory = home.memory }
+  home_kept n f b (Load_shared p l) g lp home hp = record { revised = home.revised; inside = home.inside; memory = home.memory }
+  home_kept n f b (Load_clean p l) g lp home hp = record { revised = home.revised; inside = home.inside; memory = home.memory }
+  home_kept n f b (Load_dirty p l) g lp home hp = record { revised = home.revised; inside = home.inside; memory = home.memory }
   home_kept n f b (Store p v l) g lp home hp = grind (arith, nat_tests)
-  home_kept n f b (Forget p) g lp home hp = grind (arith, nat_tests)
-  home_kept n f b (Evict p l) g lp home hp = grind (arith, nat_tests)
+  home_kept n f b (Forget p) g lp home hp = record { revised = home.revised; inside = home.inside; memory = home.memory }
+  home_kept n f b (Evict p l) g lp home hp = record { revised = home.revised; inside = home.inside; memory = home.memory }
   home_kept n f b (Read_unowned p) g lp home hp = grind (arith, nat_tests)
   home_kept n f b (Read_shared p s) g lp home hp = grind (arith, nat_tests)
-  home_kept n f b (Read_by_owner p) g lp home hp = grind (arith, nat_tests)
+  home_kept n f b (Read_by_owner p) g lp home hp = record { revised = home.revised; inside = home.inside; memory = home.memory }
   home_kept n f b (Read_owned p o) g lp home hp = grind (arith, nat_tests)
-  home_kept n f b (Read_busy p) g lp home hp = grind (arith, nat_tests)
-  home_kept n f b (Read_poison p o) g lp home hp = grind (arith, nat_tests)
+  home_kept n f b (Read_busy p) g lp home hp = record { revised = home.revised; inside = home.inside; memory = home.memory }
+  home_kept n f b (Read_poison p o) g lp home hp = record { revised = home.revised; inside = home.inside; memory = home.memory }
   home_kept n f b (Read_exclusive_unowned p) g lp home hp = grind (arith, nat_tests)
   home_kept n f b (Read_exclusive_shared p s) g lp home hp = grind (arith, nat_tests)
-  home_kept n f b (Read_exclusive_by_owner p) g lp home hp = grind (arith, nat_tests)
+  home_kept n f b (Read_exclusive_by_owner p) g lp home hp = record { revised = home.revised; inside = home.inside; memory = home.memory }
   home_kept n f b (Read_exclusive_owned p o) g lp home hp = grind (arith, nat_tests)
-  home_kept n f b (Read_exclusive_busy p) g lp home hp = grind (arith, nat_tests)
-  home_kept n f b (Read_exclusive_poison p o) g lp home hp = grind (arith, nat_tests)
+  home_kept n f b (Read_exclusive_busy p) g lp home hp = record { revised = home.revised; inside = home.inside; memory = home.memory }
+  home_kept n f b (Read_exclusive_poison p o) g lp home hp = record { revised = home.revised; inside = home.inside; memory = home.memory }
   home_kept n f b (Upgrade_shared p s) g lp home hp = grind (arith, nat_tests)
   home_kept n f b (Upgrade_grouped p s) g lp home hp = grind (arith, nat_tests)
-  home_kept n f b (Upgrade_refused p) g lp home hp = grind (arith, nat_tests)
-  home_kept n f b (Upgrade_poison p o) g lp home hp = grind (arith, nat_tests)
+  home_kept n f b (Upgrade_refused p) g lp home hp = record { revised = home.revised; inside = home.inside; memory = home.memory }
+  home_kept n f b (Upgrade_poison p o) g lp home hp = record { revised = home.revised; inside = home.inside; memory = home.memory }
   home_kept n f b (Write_back_owner p l) g lp home hp = grind (arith, nat_tests)
   home_kept n f b (Write_back_busy_shared p r l) g lp home hp = grind (arith, nat_tests)
   home_kept n f b (Write_back_busy_exclusive p r l) g lp home hp = grind (arith, nat_tests)
@@ -47,27 +47,27 @@ module _ {L : Type 0} where
   home_kept n f b (Poison_read_unowned p) g lp home hp = grind (arith, nat_tests)
   home_kept n f b (Poison_read_shared p s) g lp home hp = grind (arith, nat_tests)
   home_kept n f b (Poison_read_owned p o) g lp home hp = grind (arith, nat_tests)
-  home_kept n f b (Poison_read_busy p) g lp home hp = grind (arith, nat_tests)
+  home_kept n f b (Poison_read_busy p) g lp home hp = record { revised = home.revised; inside = home.inside; memory = home.memory }
   home_kept n f b (Copy_in p v) g lp home hp = grind (arith, nat_tests)
-  home_kept n f b (Fill_shared p l) g lp home hp = grind (arith, nat_tests)
-  home_kept n f b (Again_shared p l) g lp home hp = grind (arith, nat_tests)
-  home_kept n f b (Fill_clean p l m) g lp home hp = grind (arith, nat_tests)
-  home_kept n f b (Fill_shared_answered p l m) g lp home hp = grind (arith, nat_tests)
-  home_kept n f b (Fill_shared_speculative p m) g lp home hp = grind (arith, nat_tests)
-  home_kept n f b (Again_speculative p m) g lp home hp = grind (arith, nat_tests)
+  home_kept n f b (Fill_shared p l) g lp home hp = record { revised = home.revised; inside = home.inside; memory = home.memory }
+  home_kept n f b (Again_shared p l) g lp home hp = record { revised = home.revised; inside = home.inside; memory = home.memory }
+  home_kept n f b (Fill_clean p l m) g lp home hp = record { revised = home.revised; inside = home.inside; memory = home.memory }
+  home_kept n f b (Fill_shared_answered p l m) g lp home hp = record { revised = home.revised; inside = home.inside; memory = home.memory }
+  home_kept n f b (Fill_shared_speculative p m) g lp home hp = record { revised = home.revised; inside = home.inside; memory = home.memory }
+  home_kept n f b (Again_speculative p m) g lp home hp = record { revised = home.revised; inside = home.inside; memory = home.memory }
   home_kept n f b (Fill_exclusive p v l d) g lp home hp = grind (arith, nat_tests)
   home_kept n f b (Fill_exclusive_answered p v m l) g lp home hp = grind (arith, nat_tests)
   home_kept n f b (Fill_exclusive_speculative p v m) g lp home hp = grind (arith, nat_tests)
   home_kept n f b (Fill_upgrade p v l d) g lp home hp = grind (arith, nat_tests)
   home_kept n f b (Fill_upgrade_line p v l d) g lp home hp = grind (arith, nat_tests)
-  home_kept n f b (Again_refused p) g lp home hp = grind (arith, nat_tests)
-  home_kept n f b (Again_upgrade_refused p) g lp home hp = grind (arith, nat_tests)
-  home_kept n f b (Poisoned p) g lp home hp = grind (arith, nat_tests)
-  home_kept n f b (Poison_collected p l d) g lp home hp = grind (arith, nat_tests)
-  home_kept n f b (Invalidated p r) g lp home hp = grind (arith, nat_tests)
-  home_kept n f b (Acknowledged p r) g lp home hp = grind (arith, nat_tests)
-  home_kept n f b (Intervention_victim_busy p) g lp home hp = grind (arith, nat_tests)
-  home_kept n f b (Intervention_victim_first p) g lp home hp = grind (arith, nat_tests)
+  home_kept n f b (Again_refused p) g lp home hp = record { revised = home.revised; inside = home.inside; memory = home.memory }
+  home_kept n f b (Again_upgrade_refused p) g lp home hp = record { revised = home.revised; inside = home.inside; memory = home.memory }
+  home_kept n f b (Poisoned p) g lp home hp = record { revised = home.revised; inside = home.inside; memory = home.memory }
+  home_kept n f b (Poison_collected p l d) g lp home hp = record { revised = home.revised; inside = home.inside; memory = home.memory }
+  home_kept n f b (Invalidated p r) g lp home hp = record { revised = home.revised; inside = home.inside; memory = home.memory }
+  home_kept n f b (Acknowledged p r) g lp home hp = record { revised = home.revised; inside = home.inside; memory = home.memory }
+  home_kept n f b (Intervention_victim_busy p) g lp home hp = record { revised = home.revised; inside = home.inside; memory = home.memory }
+  home_kept n f b (Intervention_victim_first p) g lp home hp = record { revised = home.revised; inside = home.inside; memory = home.memory }
   home_kept n f b (Intervention_shared_dirty p r l) g lp home hp = grind (arith, nat_tests)
   home_kept n f b (Intervention_shared_clean p r l) g lp home hp = grind (arith, nat_tests)
   home_kept n f b (Intervention_shared_none p r) g lp home hp = grind (arith, nat_tests)
@@ -75,7 +75,7 @@ module _ {L : Type 0} where
   home_kept n f b (Intervention_exclusive_clean p r) g lp home hp = grind (arith, nat_tests)
   home_kept n f b (Intervention_poison_dirty p r l) g lp home hp = grind (arith, nat_tests)
   home_kept n f b (Intervention_poison_clean p r) g lp home hp = grind (arith, nat_tests)
-  home_kept n f b (Write_back_ack p) g lp home hp = grind (arith, nat_tests)
-  home_kept n f b (Write_back_busy_ack_seen p) g lp home hp = grind (arith, nat_tests)
-  home_kept n f b (Write_back_busy_ack_first p) g lp home hp = grind (arith, nat_tests)
-  home_kept n f b (Send_poison_read p) g lp home hp = grind (arith, nat_tests)
+  home_kept n f b (Write_back_ack p) g lp home hp = record { revised = home.revised; inside = home.inside; memory = home.memory }
+  home_kept n f b (Write_back_busy_ack_seen p) g lp home hp = record { revised = home.revised; inside = home.inside; memory = home.memory }
+  home_kept n f b (Write_back_busy_ack_first p) g lp home hp = record { revised = home.revised; inside = home.inside; memory = home.memory }
+  home_kept n f b (Send_poison_read p) g lp home hp = record { revised = home.revised; inside = home.inside; memory = home.memory }

@@ -11,9 +11,9 @@ module _ {L : Type 0} where
   owned_kept n f q b (Send_read p) g _ lp lq home hp hq = grind (arith, nat_tests)
   owned_kept n f q b (Send_read_exclusive p) g _ lp lq home hp hq = grind (arith, nat_tests)
   owned_kept n f q b (Send_upgrade p l) g _ lp lq home hp hq = grind (arith, nat_tests)
-  owned_kept n f q b (Load_shared p l) g _ lp lq home hp hq = grind (arith, nat_tests)
-  owned_kept n f q b (Load_clean p l) g _ lp lq home hp hq = grind (arith, nat_tests)
-  owned_kept n f q b (Load_dirty p l) g _ lp lq home hp hq = grind (arith, nat_tests)
+  owned_kept n f q b (Load_shared p l) g _ lp lq home hp hq = hq.owned
+  owned_kept n f q b (Load_clean p l) g _ lp lq home hp hq = hq.owned
+  owned_kept n f q b (Load_dirty p l) g _ lp lq home hp hq = hq.owned
   owned_kept n f q b (Store p v l) g _ lp lq home hp hq = grind (arith, nat_tests)
   owned_kept n f q b (Forget p) g _ lp lq home hp hq = grind (arith, nat_tests)
   owned_kept n f q b (Evict p l) g _ lp lq home hp hq = grind (arith, nat_tests)
@@ -65,9 +65,9 @@ module _ {L : Type 0} where
   owned_kept n f q b (Poisoned p) g _ lp lq home hp hq = grind (arith, nat_tests)
   owned_kept n f q b (Poison_collected p l d) g _ lp lq home hp hq = grind (arith, nat_tests)
   owned_kept n f q b (Invalidated p r) g _ lp lq home hp hq = grind (arith, nat_tests)
-  owned_kept n f q b (Acknowledged p r) g _ lp lq home hp hq = grind (arith, nat_tests)
-  owned_kept n f q b (Intervention_victim_busy p) g _ lp lq home hp hq = grind (arith, nat_tests)
-  owned_kept n f q b (Intervention_victim_first p) g _ lp lq home hp hq = grind (arith, nat_tests)
+  owned_kept n f q b (Acknowledged p r) g _ lp lq home hp hq = hq.owned
+  owned_kept n f q b (Intervention_victim_busy p) g _ lp lq home hp hq = hq.owned
+  owned_kept n f q b (Intervention_victim_first p) g _ lp lq home hp hq = hq.owned
   owned_kept n f q b (Intervention_shared_dirty p r l) g _ lp lq home hp hq = grind (arith, nat_tests)
   owned_kept n f q b (Intervention_shared_clean p r l) g _ lp lq home hp hq = grind (arith, nat_tests)
   owned_kept n f q b (Intervention_shared_none p r) g inv lp lq home hp hq = owned_Intervention_shared_none n f q p r b g inv lp lq

@@ -10,9 +10,9 @@ module _ {L : Type 0} where
   upgrades_kept n f q b (Send_read p) g _ lp lq home hp hq = grind (arith, nat_tests)
   upgrades_kept n f q b (Send_read_exclusive p) g _ lp lq home hp hq = grind (arith, nat_tests)
   upgrades_kept n f q b (Send_upgrade p l) g _ lp lq home hp hq = grind (arith, nat_tests)
-  upgrades_kept n f q b (Load_shared p l) g _ lp lq home hp hq = grind (arith, nat_tests)
-  upgrades_kept n f q b (Load_clean p l) g _ lp lq home hp hq = grind (arith, nat_tests)
-  upgrades_kept n f q b (Load_dirty p l) g _ lp lq home hp hq = grind (arith, nat_tests)
+  upgrades_kept n f q b (Load_shared p l) g _ lp lq home hp hq = record { granted = hq.upgrades.granted; asked = hq.upgrades.asked; held = hq.upgrades.held; not_held = hq.upgrades.not_held }
+  upgrades_kept n f q b (Load_clean p l) g _ lp lq home hp hq = record { granted = hq.upgrades.granted; asked = hq.upgrades.asked; held = hq.upgrades.held; not_held = hq.upgrades.not_held }
+  upgrades_kept n f q b (Load_dirty p l) g _ lp lq home hp hq = record { granted = hq.upgrades.granted; asked = hq.upgrades.asked; held = hq.upgrades.held; not_held = hq.upgrades.not_held }
   upgrades_kept n f q b (Store p v l) g _ lp lq home hp hq = grind (arith, nat_tests)
   upgrades_kept n f q b (Forget p) g _ lp lq home hp hq = grind (arith, nat_tests)
   upgrades_kept n f q b (Evict p l) g _ lp lq home hp hq = grind (arith, nat_tests)
@@ -64,9 +64,9 @@ module _ {L : Type 0} where
   upgrades_kept n f q b (Poisoned p) g _ lp lq home hp hq = grind (arith, nat_tests)
   upgrades_kept n f q b (Poison_collected p l d) g _ lp lq home hp hq = grind (arith, nat_tests)
   upgrades_kept n f q b (Invalidated p r) g _ lp lq home hp hq = grind (arith, nat_tests)
-  upgrades_kept n f q b (Acknowledged p r) g _ lp lq home hp hq = grind (arith, nat_tests)
-  upgrades_kept n f q b (Intervention_victim_busy p) g _ lp lq home hp hq = grind (arith, nat_tests)
-  upgrades_kept n f q b (Intervention_victim_first p) g _ lp lq home hp hq = grind (arith, nat_tests)
+  upgrades_kept n f q b (Acknowledged p r) g _ lp lq home hp hq = record { granted = hq.upgrades.granted; asked = hq.upgrades.asked; held = hq.upgrades.held; not_held = hq.upgrades.not_held }
+  upgrades_kept n f q b (Intervention_victim_busy p) g _ lp lq home hp hq = record { granted = hq.upgrades.granted; asked = hq.upgrades.asked; held = hq.upgrades.held; not_held = hq.upgrades.not_held }
+  upgrades_kept n f q b (Intervention_victim_first p) g _ lp lq home hp hq = record { granted = hq.upgrades.granted; asked = hq.upgrades.asked; held = hq.upgrades.held; not_held = hq.upgrades.not_held }
   upgrades_kept n f q b (Intervention_shared_dirty p r l) g _ lp lq home hp hq = grind (arith, nat_tests)
   upgrades_kept n f q b (Intervention_shared_clean p r l) g _ lp lq home hp hq = grind (arith, nat_tests)
   upgrades_kept n f q b (Intervention_shared_none p r) g _ lp lq home hp hq = grind (arith, nat_tests)
@@ -74,7 +74,7 @@ module _ {L : Type 0} where
   upgrades_kept n f q b (Intervention_exclusive_clean p r) g _ lp lq home hp hq = grind (arith, nat_tests)
   upgrades_kept n f q b (Intervention_poison_dirty p r l) g _ lp lq home hp hq = grind (arith, nat_tests)
   upgrades_kept n f q b (Intervention_poison_clean p r) g _ lp lq home hp hq = grind (arith, nat_tests)
-  upgrades_kept n f q b (Write_back_ack p) g _ lp lq home hp hq = grind (arith, nat_tests)
-  upgrades_kept n f q b (Write_back_busy_ack_seen p) g _ lp lq home hp hq = grind (arith, nat_tests)
-  upgrades_kept n f q b (Write_back_busy_ack_first p) g _ lp lq home hp hq = grind (arith, nat_tests)
+  upgrades_kept n f q b (Write_back_ack p) g _ lp lq home hp hq = record { granted = hq.upgrades.granted; asked = hq.upgrades.asked; held = hq.upgrades.held; not_held = hq.upgrades.not_held }
+  upgrades_kept n f q b (Write_back_busy_ack_seen p) g _ lp lq home hp hq = record { granted = hq.upgrades.granted; asked = hq.upgrades.asked; held = hq.upgrades.held; not_held = hq.upgrades.not_held }
+  upgrades_kept n f q b (Write_back_busy_ack_first p) g _ lp lq home hp hq = record { granted = hq.upgrades.granted; asked = hq.upgrades.asked; held = hq.upgrades.held; not_held = hq.upgrades.not_held }
   upgrades_kept n f q b (Send_poison_read p) g _ lp lq home hp hq = grind (arith, nat_tests)

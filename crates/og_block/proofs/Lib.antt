@@ -20,4 +20,5 @@ pub mod Kept_counted
 pub mod Kept_upgrades
 pub mod Kept_home
 pub mod All
+pub mod Held
 pub mod Run
