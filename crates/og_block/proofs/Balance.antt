@@ -3,7 +3,7 @@ use Rattle.std.proofs.Common.{◌≡◌, ℕ, ◌+◌, ◌<◌, Bool, true, fals
 use Rattle.std.proofs.lemmas.Bool.Decides.{nat_tests}
 use Rattle.og_slots.proofs.Count.{count_some}
 use Rattle.og_block.proofs.Served.{not_writable, not_shared}
-use Rattle.og_block.specs.State.{Copy, NoCopy, Want, Idle, Upgrading, Ask, NoAsk, SpeculativeReply, UpgradeReply, Response, NoResponse, Back, Victim, Free, Seen, Intervention, Entry, Revision, Exclusive, Invalidate, InvalidateAck, Block}
+use Rattle.og_block.specs.State.{Copy, NoCopy, Want, Idle, Upgrading, Ask, NoAsk, Response, NoResponse, Back, Victim, Free, Seen, Intervention, Entry, Revision, Exclusive, Invalidate, InvalidateAck, Block}
 use Rattle.og_block.specs.Rows.{has_response, has_intervention}
 use Rattle.og_block.specs.Invariant.{Invariant, Local, Asks, Fits_ask, Fits_copy, Backs, Fits_back, Spent, Waits, Intervened, Intervened_by, Early, Early_by, Counted, waits_shared, waits_exclusive, is_spent, is_asked, awaits_shared, awaits_exclusive, is_write_back, is_shared, is_upgrade, grants, pending, is_for, is_holder}
 use Rattle.og_block.specs.Balance.{number, is_taken, is_victim_busy, is_victim_seen, is_speculative, is_ack, is_busy_ack, due, Balanced, Finds_ready}
@@ -22,7 +22,7 @@ module _ {L : Type 0} where
   victims b q k = grind (arith, nat_tests)
 
   -- an owner that hasn't answered is the holder
-  asked_holds : (e : Entry) (v : Revision L) (q : ℕ) → is_asked e v q ≡ true → is_holder e v q ≡ true
+  pub asked_holds : (e : Entry) (v : Revision L) (q : ℕ) → is_asked e v q ≡ true → is_holder e v q ≡ true
   asked_holds e v q a = grind (arith, nat_tests)
 
   -- an intervention that no victim slot is to ignore is for an owner that hasn't answered

@@ -31,3 +31,5 @@ pub mod Served
 pub mod Replies
 pub mod Meets
 pub mod Balance
+pub mod Charges
+pub mod Blocks

@@ -1,14 +1,14 @@
 -- In a run in which each plays its part, no message is ever met without a row.
-use Rattle.std.proofs.Common.{◌≡◌, ℕ, ◌<◌, ◌≤◌, Bool, true, false, arith, ◌≢◌, ◌⊎◌, inl, inr, refl}
+use Rattle.std.proofs.Common.{◌≡◌, ℕ, ◌<◌, true, false, arith, ◌≢◌, ◌⊎◌, inl, inr, refl}
 use Rattle.std.proofs.lemmas.Bool.Decides.{nat_tests}
 use Rattle.og_block.proofs.Alone.{giver_holds}
 use Rattle.og_block.proofs.Served.{read, exclusive, upgrade, poison, write_back, busy_ack, revision, invalidation, intervention}
 use Rattle.og_block.proofs.Replies.{full, speculative, exclusive_full, upgrade_full, refused, shared_reply, few, poison_full}
-use Rattle.og_block.specs.State.{Want, Idle, Reading, Writing, Upgrading, Poisoning, Ask, NoAsk, Read, ReadExclusive, Upgrade, SharedReply, SpeculativeReply, ExclusiveReply, UpgradeReply, NegativeAck, PoisonError, PoisonRead, PoisonWait, PoisonReply, Response, NoResponse, SharedResponse, ExclusiveResponse, OwnerAck, Back, NoBack, WriteBack, WriteBackAck, WriteBackBusyAck, Victim, Taken, Seen, Entry, Exclusive, PoisonBy, Block}
+use Rattle.og_block.specs.State.{Upgrading, Poisoning, Ask, NoAsk, Read, ReadExclusive, Upgrade, SharedReply, SpeculativeReply, ExclusiveReply, UpgradeReply, NegativeAck, PoisonError, PoisonRead, PoisonWait, PoisonReply, Response, NoResponse, Back, NoBack, WriteBack, WriteBackAck, WriteBackBusyAck, Taken, Seen, Exclusive, PoisonBy, Block}
 use Rattle.og_block.specs.Rows.{is_upgrading, Poisoned, Write_back_ack}
-use Rattle.og_block.specs.Invariant.{Invariant, Local, Fits_ask, is_shared}
+use Rattle.og_block.specs.Invariant.{Invariant, Local, is_shared}
 use Rattle.og_block.specs.Roles.{Roles, is_poisoning}
-use Rattle.og_block.specs.Message.{Message, Asked, Answered, Returned, Revised, Intervened, Invalidated, is_sent, Stands, MeetsRow, MayWait, Served}
+use Rattle.og_block.specs.Message.{Asked, Answered, Returned, Revised, Intervened, Invalidated, is_sent, MeetsRow, MayWait, Served}
 
 module _ {L : Type 0} where
   not_owner : (n : ℕ) (f : L) (q : ℕ) (b : Block L) → Local n f b q → b.ask q ≡ Upgrade → b.entry ≢ Exclusive q

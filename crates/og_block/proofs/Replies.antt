@@ -2,9 +2,9 @@
 use Rattle.std.proofs.Common.{◌≡◌, ℕ, ◌<◌, ◌≤◌, Bool, true, false, nat_eq, arith, ◌≢◌, ◌⊎◌, inl, inr}
 use Rattle.std.proofs.lemmas.Bool.{cases_Bool}
 use Rattle.std.proofs.lemmas.Bool.Decides.{nat_tests}
-use Rattle.og_block.specs.State.{Copy, Shared, Want, Reading, Writing, Upgrading, Poisoning, Ask, SharedReply, SpeculativeReply, ExclusiveReply, UpgradeReply, NegativeAck, PoisonReply, Response, NoResponse, SharedResponse, ExclusiveResponse, OwnerAck, Block}
+use Rattle.og_block.specs.State.{Copy, Shared, Want, Reading, Writing, Upgrading, Poisoning, SharedReply, SpeculativeReply, ExclusiveReply, UpgradeReply, NegativeAck, PoisonReply, Response, NoResponse, SharedResponse, ExclusiveResponse, OwnerAck, Block}
 use Rattle.og_block.specs.Rows.{guard, is_upgrading, Fill_shared, Again_shared, Fill_clean, Fill_shared_answered, Fill_shared_speculative, Again_speculative, Fill_exclusive, Fill_exclusive_answered, Fill_exclusive_speculative, Fill_upgrade, Fill_upgrade_line, Again_refused, Again_upgrade_refused, Poison_collected}
-use Rattle.og_block.specs.Invariant.{Local, Asks, Fits_ask, is_shared}
+use Rattle.og_block.specs.Invariant.{Local, Fits_ask, is_shared}
 use Rattle.og_block.specs.Message.{Asked, Answered, MeetsRow}
 
 module _ {L : Type 0} where

@@ -1,13 +1,11 @@
 -- No message is ever met without a row.
-use Rattle.std.proofs.Common.{◌≡◌, ℕ, ◌<◌, Bool, true, false, nat_eq, arith, ◌≢◌, ◌⊎◌, inl, inr, refl}
+use Rattle.std.proofs.Common.{◌≡◌, ℕ, ◌<◌, true, false, nat_eq, arith, ◌≢◌, ◌⊎◌, inl, inr, refl}
 use Rattle.std.proofs.lemmas.Bool.{cases_Bool}
 use Rattle.std.proofs.lemmas.Bool.Decides.{nat_tests}
-use Rattle.og_block.specs.State.{Copy, NoCopy, Shared, Clean, Dirty, Want, Idle, Reading, Writing, Upgrading, Poisoning, Ask, NoAsk, Read, ReadExclusive, Upgrade, SharedReply, SpeculativeReply, ExclusiveReply, UpgradeReply, NegativeAck, PoisonError, PoisonRead, PoisonWait, PoisonReply, Response, NoResponse, SharedResponse, ExclusiveResponse, OwnerAck, Back, NoBack, WriteBack, WriteBackAck, WriteBackBusyAck, Victim, Free, Taken, Busy, Seen, Intervention, NoIntervention, InterveneShared, InterveneExclusive, IntervenePoison, Invalidation, NoInvalidation, Invalidate, InvalidateAck, Entry, Unowned, SharedBy, Exclusive, BusyShared, BusyExclusive, BusyPoison, PoisonBy, Revision, NoRevision, SharingWriteBack, SharingTransfer, DirtyTransfer, PoisonBack, PoisonClean, Sharing, Single, Grouped, Block}
-use Rattle.og_block.specs.Rows.{guard, apply, actor_of, has_exclusive, has_intervention, is_dirty, Read_unowned, Read_shared, Read_by_owner, Read_owned, Read_busy, Read_poison, Read_exclusive_unowned, Read_exclusive_shared, Read_exclusive_by_owner, Read_exclusive_owned, Read_exclusive_busy, Read_exclusive_poison, Upgrade_shared, Upgrade_grouped, Upgrade_refused, Upgrade_poison, Write_back_owner, Write_back_busy_shared, Write_back_busy_exclusive, Write_back_requester, Write_back_busy_poison, Revision_sharing_write_back, Revision_sharing_transfer, Revision_dirty_transfer, Revision_returned, Revision_poison_back, Revision_poison_clean, Poison_read_unowned, Poison_read_shared, Poison_read_owned, Poison_read_busy, Fill_shared, Again_shared, Fill_clean, Fill_shared_answered, Fill_shared_speculative, Again_speculative, Fill_exclusive, Fill_exclusive_answered, Fill_exclusive_speculative, Fill_upgrade, Fill_upgrade_line, Again_refused, Again_upgrade_refused, Poisoned, Poison_collected, Invalidated as Invalidated_row, Acknowledged, Intervention_victim_busy, Intervention_victim_first, Intervention_shared_dirty, Intervention_shared_clean, Intervention_shared_none, Intervention_exclusive_dirty, Intervention_exclusive_clean, Intervention_poison_dirty, Intervention_poison_clean, Write_back_ack, Write_back_busy_ack_seen, Write_back_busy_ack_first}
-use Rattle.og_block.proofs.Alone.{giver_holds}
-use Rattle.og_block.specs.Invariant.{Invariant, Local, Home, Sent, Owned, is_shared, is_holder}
-use Rattle.og_block.specs.Roles.{Roles}
-use Rattle.og_block.specs.Message.{Message, Asked, Answered, Returned, Revised, Intervened, Invalidated, Stands, MeetsRow, MayWait, Served}
+use Rattle.og_block.specs.State.{Copy, NoCopy, Clean, Dirty, Want, Idle, Read, ReadExclusive, Upgrade, PoisonRead, WriteBack, WriteBackBusyAck, Victim, Free, Taken, Busy, Seen, Intervention, NoIntervention, InterveneShared, InterveneExclusive, IntervenePoison, Invalidation, NoInvalidation, Invalidate, InvalidateAck, Entry, Unowned, SharedBy, Exclusive, BusyShared, BusyExclusive, BusyPoison, PoisonBy, Revision, NoRevision, SharingWriteBack, SharingTransfer, DirtyTransfer, PoisonBack, PoisonClean, Sharing, Single, Grouped, Block}
+use Rattle.og_block.specs.Rows.{has_exclusive, has_intervention, Read_unowned, Read_shared, Read_by_owner, Read_owned, Read_busy, Read_poison, Read_exclusive_unowned, Read_exclusive_shared, Read_exclusive_by_owner, Read_exclusive_owned, Read_exclusive_busy, Read_exclusive_poison, Upgrade_shared, Upgrade_grouped, Upgrade_refused, Upgrade_poison, Write_back_owner, Write_back_busy_shared, Write_back_busy_exclusive, Write_back_requester, Write_back_busy_poison, Revision_sharing_write_back, Revision_sharing_transfer, Revision_dirty_transfer, Revision_returned, Revision_poison_back, Revision_poison_clean, Poison_read_unowned, Poison_read_shared, Poison_read_owned, Poison_read_busy, Invalidated as Invalidated_row, Acknowledged, Intervention_victim_busy, Intervention_victim_first, Intervention_shared_dirty, Intervention_shared_clean, Intervention_shared_none, Intervention_exclusive_dirty, Intervention_exclusive_clean, Intervention_poison_dirty, Intervention_poison_clean, Write_back_busy_ack_seen, Write_back_busy_ack_first}
+use Rattle.og_block.specs.Invariant.{Invariant, Local, Home, is_shared, is_holder}
+use Rattle.og_block.specs.Message.{Asked, Returned, Revised, Intervened, Invalidated, MeetsRow, MayWait}
 
 module _ {L : Type 0} where
   -- ---- requests, by the entry

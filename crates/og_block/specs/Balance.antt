@@ -1,9 +1,9 @@
 -- What balances in every state, and what the tables' conditions rest on: each call that handles a message of this block
 -- finds what it asks for.
 use Rattle.std.specs.Prelude.{◌≡◌, ℕ, ◌+◌, ◌<◌, Bool, true, false, cond, ◌≢◌}
-use Rattle.og_block.specs.State.{NoCopy, Want, Idle, Reading, Upgrading, Ask, NoAsk, Read, ReadExclusive, Upgrade, SpeculativeReply, ExclusiveReply, UpgradeReply, PoisonReply, Response, NoResponse, Back, NoBack, WriteBack, WriteBackAck, WriteBackBusyAck, Victim, Free, Taken, Busy, Seen, Intervention, Invalidation, NoInvalidation, Invalidate, InvalidateAck, Entry, Exclusive, Single, Block}
-use Rattle.og_block.specs.Rows.{has_exclusive, has_response, has_intervention, is_busy}
-use Rattle.og_block.specs.Views.{is_holder, is_asked, awaits_shared, awaits_exclusive, is_write_back, is_shared, is_upgrade, grants, pending, is_sharer}
+use Rattle.og_block.specs.State.{NoCopy, Idle, Upgrading, Ask, NoAsk, SpeculativeReply, ExclusiveReply, UpgradeReply, PoisonReply, NoResponse, Back, WriteBackAck, WriteBackBusyAck, Victim, Free, Taken, Busy, Seen, Invalidate, InvalidateAck, Exclusive, Block}
+use Rattle.og_block.specs.Rows.{has_exclusive, has_response, has_intervention}
+use Rattle.og_block.specs.Views.{is_holder, is_asked, awaits_shared, awaits_exclusive, is_write_back, is_shared, is_upgrade, grants, pending}
 
 abbrev pub number : Bool → ℕ
 number t = cond t 1 0
