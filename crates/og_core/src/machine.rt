@@ -6,7 +6,9 @@ ghost use Rattle.og_runs.specs.World.{world_step};
 ghost use Rattle.og_runs.specs.declared.Choice.TheVariants.{Act, Take};
 ghost use Rattle.rv_hart.specs.Layout.{layout_of, pages_of};
 ghost use Rattle.og_core.specs.Node.{letters_of, setup_of, rules, act_of, take_of, IsYoung, IsLow};
-ghost use Rattle.og_core.specs.Machine.{MachineState, Moves, setup_in, start_world, IsFor, IsMade, IsYoungWorld, refusal_of, is_stopped, is_quiet};
+ghost use Rattle.og_core.specs.Machine.{MachineState, Moves, setup_in, start_world, IsFor, IsMade, IsYoungWorld, refusal_of, is_stopped, is_quiet, start_of, new_seat};
+ghost use Rattle.rv_hart.specs.Layout.{below};
+ghost use Rattle.std.specs.Prelude.{map};
 
 use crate::msg::{Event, Msg};
 use crate::node::{Done, Node};
@@ -187,4 +189,71 @@ impl Machine {
             Choice::Take(actor, id) => self.take(image, actor, id),
         }
     }
+}
+
+impl Machine {
+    /// The machine of a program at its start, for one node: `NoFrames` where its data and stack pages
+    /// are more than the frames.
+    pub fn start(alloc: Global, image: &Image, settings: &Settings) -> Result<Machine, LayoutFault>
+        requires nodes { settings.now.nodes ≡ image.now.nodes }
+        ensures made { IfOk result (λ machine. machine ≡ start_of image.now settings.now.frames settings.now.instructions) }
+        ensures room { OnOk result (length (pages_of image.now) ≤ settings.now.nodes * settings.now.frames) }
+        ensures no_frames { (need have : ℕ) → result ≡ Err (LayoutFault.NoFrames need have) →
+            (need ≡ length (pages_of image.now)) × (have ≡ settings.now.nodes * settings.now.frames) × (have < need) }
+    {
+        let layout = Layout::make(alloc, image, settings)?;
+        match start_seats(alloc, image, &layout, settings) {
+            Ok(seats) => Ok(Machine {
+                layout,
+                frames: settings.frames,
+                instructions: settings.instructions,
+                seats,
+                messages: Vec::new(alloc),
+            }),
+            Err(_) => Err(LayoutFault::Memory),
+        }
+    }
+
+    /// Whether each hart has stopped.
+    pub fn stopped(&self) -> bool
+        ensures { result ≡ is_stopped self.now.world }
+    {
+        self.seats.iter().all(|seat| seat.local.stopped().is_some())
+    }
+
+    /// Whether each hart has stopped and no message is in flight.
+    pub fn quiet(&self) -> bool
+        ensures { result ≡ is_quiet self.now.world }
+    {
+        self.stopped() && self.messages.is_empty()
+    }
+
+    /// How many messages are in flight.
+    pub fn in_flight(&self) -> u32
+        requires { length self.now.world.flight < 2 ^ 31 }
+        ensures { result ≡ length self.now.world.flight }
+    {
+        self.messages.len() as u32
+    }
+}
+
+/// The seats of all actors at the start.
+fn start_seats(
+    alloc: Global,
+    image: &Image,
+    layout: &Layout,
+    settings: &Settings,
+) -> Result<Vec<Seat<Node>>, NoMemory>
+    requires { layout.now.nodes ≡ settings.now.nodes }
+    ensures { IfOk result (λ seats. seats.items ≡ map (new_seat (setup_of image.now layout.now settings.now.frames) settings.now.instructions) (below layout.now.nodes)) }
+{
+    let mut seats = Vec::new(alloc);
+    for node in 0..settings.nodes {
+        seats.push(Seat {
+            local: Node::make(alloc, node, image, layout, settings)?,
+            clock: 0,
+            next: 0,
+        })?;
+    }
+    Ok(seats)
 }
