@@ -1,0 +1,35 @@
+-- The entry that a home has. In the layer of blocks a block that was poisoned and collected stays the mover's until a copy
+-- gives it a line. At its home a cleaning makes the blocks of a frame Unowned, and there they wait for a copy.
+use Rattle.std.specs.Prelude.{◌≡◌, ℕ, ◌<◌, Bool, true, false}
+use Rattle.og_block.specs.State.{Entry, Unowned, PoisonBy}
+use Rattle.og_pages.specs.State.{State as Pages, Role, Free, Mapped, Target, Quarantined, Job, Command, Cleaning, CleanFrame, FrameClean, Wait, CopyIn}
+use Rattle.og_pages.specs.Rows.{Row as PageRow, Clean_serve}
+use Rattle.og_pages.specs.Invariant.{is_cleaned}
+use Rattle.og_whole.specs.Events.{World}
+
+-- the frame's blocks are blank at its home: it is free, the target of a move, or cleaned
+abbrev pub is_blank : {L : Type 0} → Role → Job L → Command L → (frame : ℕ) → Bool
+is_blank Free job sent frame = true
+is_blank (Target page) job sent frame = true
+is_blank (Quarantined page) job sent frame = is_cleaned job sent frame
+is_blank (Mapped page) job sent frame = false
+
+abbrev pub home_entry : Bool → Entry → Entry
+home_entry true (PoisonBy mover) = Unowned
+home_entry blank entry = entry
+
+abbrev pub home_entry_in : {L : Type 0} → Pages L → (frame : ℕ) → Entry → Entry
+home_entry_in s frame entry = home_entry (is_blank (s.role frame) s.job s.command frame) entry
+
+abbrev pub home_entry_at : {L : Type 0} → World L → (frame number : ℕ) → Entry
+home_entry_at w frame number = home_entry_in w.pages frame (w.block frame number).entry
+
+abbrev pub cleans : {L : Type 0} → PageRow L → Bool
+cleans (Clean_serve frame) = true
+cleans row = false
+
+-- a cleaning finds each block of the frame poisoned, and leaves it Unowned; a copy comes in at an Unowned block
+pub record EntriesMet (L : Type 0) (actors mover pages blocks : ℕ) (w : World L) : Type 0 where
+  pub clean_finds : (frame number : ℕ) → number < blocks → w.pages.job ≡ Cleaning frame → w.pages.command ≡ CleanFrame → home_entry_at w frame number ≡ PoisonBy mover
+  pub clean_leaves : (frame number : ℕ) → number < blocks → w.pages.job ≡ Cleaning frame → w.pages.command ≡ FrameClean → home_entry_at w frame number ≡ Unowned
+  pub copy_finds : (page old frame number : ℕ) (line : L) → number < blocks → w.pages.job ≡ Wait page old frame number → w.pages.command ≡ CopyIn line → home_entry_at w frame number ≡ Unowned
