@@ -1,6 +1,6 @@
 -- Every row keeps the invariant.
-use Rattle.std.proofs.Common.{ℕ, ◌<◌, arith}
-use Rattle.std.proofs.lemmas.Bool.Decides.{nat_tests}
+use Rattle.std.proofs.Common.{ℕ, ◌<◌}
+use Rattle.og_block.proofs.Kept_home.{home_kept}
 use Rattle.og_block.proofs.Kept_asks.{asks_kept}
 use Rattle.og_block.proofs.Kept_rests.{rests_kept}
 use Rattle.og_block.proofs.Kept_backs.{backs_kept}
@@ -16,82 +16,28 @@ use Rattle.og_block.proofs.Kept_covered.{covered_kept}
 use Rattle.og_block.proofs.Kept_counted.{counted_kept}
 use Rattle.og_block.proofs.Kept_upgrades.{upgrades_kept}
 use Rattle.og_block.specs.State.{Block}
-use Rattle.og_block.specs.Rows.{Row, guard, apply, flat_after, actor_of, Send_read, Send_read_exclusive, Send_upgrade, Load_shared, Load_clean, Load_dirty, Store, Forget, Evict, Read_unowned, Read_shared, Read_by_owner, Read_owned, Read_busy, Read_exclusive_unowned, Read_exclusive_shared, Read_exclusive_by_owner, Read_exclusive_owned, Read_exclusive_busy, Upgrade_shared, Upgrade_refused, Write_back_owner, Write_back_busy_shared, Write_back_busy_exclusive, Write_back_requester, Revision_sharing_write_back, Revision_sharing_transfer, Revision_dirty_transfer, Revision_returned, Fill_shared, Again_shared, Fill_clean, Fill_shared_answered, Fill_shared_speculative, Again_speculative, Fill_exclusive, Fill_exclusive_answered, Fill_upgrade, Again_refused, Again_upgrade_refused, Acknowledged, Invalidated, Intervention_victim_busy, Intervention_victim_first, Intervention_shared_dirty, Intervention_shared_clean, Intervention_shared_none, Intervention_exclusive_dirty, Intervention_exclusive_clean, Write_back_ack, Write_back_busy_ack_seen, Write_back_busy_ack_first, Send_poison_read, Poison_read_unowned, Poison_read_shared, Poison_read_owned, Poison_read_busy, Write_back_busy_poison, Revision_poison_back, Revision_poison_clean, Intervention_poison_dirty, Intervention_poison_clean, Poison_collected, Read_poison, Read_exclusive_poison, Upgrade_poison, Poisoned, Copy_in}
-use Rattle.og_block.specs.Invariant.{Invariant, Local, Home}
+use Rattle.og_block.specs.Access.{flat_after}
+use Rattle.og_block.specs.Rows.{Row, guard, apply, actor_of}
+use Rattle.og_block.specs.Invariant.{Invariant, Local}
 
 module _ {L : Type 0} where
-  home_kept : (n : ℕ) (f : L) (b : Block L) (r : Row L) → guard r b → actor_of r < n → Home n f b → Local n f b (actor_of r) → Home n (flat_after r f) (apply n r b)
-  home_kept n f b (Send_read p) g lp home hp = grind (arith, nat_tests)
-  home_kept n f b (Send_read_exclusive p v) g lp home hp = grind (arith, nat_tests)
-  home_kept n f b (Send_upgrade p v l) g lp home hp = grind (arith, nat_tests)
-  home_kept n f b (Load_shared p l) g lp home hp = grind (arith, nat_tests)
-  home_kept n f b (Load_clean p l) g lp home hp = grind (arith, nat_tests)
-  home_kept n f b (Load_dirty p l) g lp home hp = grind (arith, nat_tests)
-  home_kept n f b (Store p v) g lp home hp = grind (arith, nat_tests)
-  home_kept n f b (Forget p) g lp home hp = grind (arith, nat_tests)
-  home_kept n f b (Evict p l) g lp home hp = grind (arith, nat_tests)
-  home_kept n f b (Read_unowned p) g lp home hp = grind (arith, nat_tests)
-  home_kept n f b (Read_shared p s) g lp home hp = grind (arith, nat_tests)
-  home_kept n f b (Read_by_owner p) g lp home hp = grind (arith, nat_tests)
-  home_kept n f b (Read_owned p o) g lp home hp = grind (arith, nat_tests)
-  home_kept n f b (Read_busy p) g lp home hp = grind (arith, nat_tests)
-  home_kept n f b (Read_exclusive_unowned p) g lp home hp = grind (arith, nat_tests)
-  home_kept n f b (Read_exclusive_shared p s) g lp home hp = grind (arith, nat_tests)
-  home_kept n f b (Read_exclusive_by_owner p) g lp home hp = grind (arith, nat_tests)
-  home_kept n f b (Read_exclusive_owned p o) g lp home hp = grind (arith, nat_tests)
-  home_kept n f b (Read_exclusive_busy p) g lp home hp = grind (arith, nat_tests)
-  home_kept n f b (Upgrade_shared p s) g lp home hp = grind (arith, nat_tests)
-  home_kept n f b (Upgrade_refused p) g lp home hp = grind (arith, nat_tests)
-  home_kept n f b (Write_back_owner p l) g lp home hp = grind (arith, nat_tests)
-  home_kept n f b (Write_back_busy_shared p r l) g lp home hp = grind (arith, nat_tests)
-  home_kept n f b (Write_back_busy_exclusive p r l) g lp home hp = grind (arith, nat_tests)
-  home_kept n f b (Write_back_requester p o l) g lp home hp = grind (arith, nat_tests)
-  home_kept n f b (Revision_sharing_write_back o r l) g lp home hp = grind (arith, nat_tests)
-  home_kept n f b (Revision_sharing_transfer o r) g lp home hp = grind (arith, nat_tests)
-  home_kept n f b (Revision_dirty_transfer o r) g lp home hp = grind (arith, nat_tests)
-  home_kept n f b (Revision_returned o r) g lp home hp = grind (arith, nat_tests)
-  home_kept n f b (Fill_shared p l) g lp home hp = grind (arith, nat_tests)
-  home_kept n f b (Again_shared p l) g lp home hp = grind (arith, nat_tests)
-  home_kept n f b (Fill_clean p l m) g lp home hp = grind (arith, nat_tests)
-  home_kept n f b (Fill_shared_answered p l m) g lp home hp = grind (arith, nat_tests)
-  home_kept n f b (Fill_shared_speculative p m) g lp home hp = grind (arith, nat_tests)
-  home_kept n f b (Again_speculative p m) g lp home hp = grind (arith, nat_tests)
-  home_kept n f b (Fill_exclusive p v l d) g lp home hp = grind (arith, nat_tests)
-  home_kept n f b (Fill_exclusive_answered p v m l) g lp home hp = grind (arith, nat_tests)
-  home_kept n f b (Fill_upgrade p v l d) g lp home hp = grind (arith, nat_tests)
-  home_kept n f b (Again_refused p) g lp home hp = grind (arith, nat_tests)
-  home_kept n f b (Again_upgrade_refused p) g lp home hp = grind (arith, nat_tests)
-  home_kept n f b (Acknowledged p r) g lp home hp = grind (arith, nat_tests)
-  home_kept n f b (Invalidated p r) g lp home hp = grind (arith, nat_tests)
-  home_kept n f b (Intervention_victim_busy p) g lp home hp = grind (arith, nat_tests)
-  home_kept n f b (Intervention_victim_first p) g lp home hp = grind (arith, nat_tests)
-  home_kept n f b (Intervention_shared_dirty p r l) g lp home hp = grind (arith, nat_tests)
-  home_kept n f b (Intervention_shared_clean p r l) g lp home hp = grind (arith, nat_tests)
-  home_kept n f b (Intervention_shared_none p r) g lp home hp = grind (arith, nat_tests)
-  home_kept n f b (Intervention_exclusive_dirty p r l) g lp home hp = grind (arith, nat_tests)
-  home_kept n f b (Intervention_exclusive_clean p r) g lp home hp = grind (arith, nat_tests)
-  home_kept n f b (Write_back_ack p) g lp home hp = grind (arith, nat_tests)
-  home_kept n f b (Write_back_busy_ack_seen p) g lp home hp = grind (arith, nat_tests)
-  home_kept n f b (Write_back_busy_ack_first p) g lp home hp = grind (arith, nat_tests)
-  home_kept n f b (Send_poison_read p) g lp home hp = grind (arith, nat_tests)
-  home_kept n f b (Poison_read_unowned p) g lp home hp = grind (arith, nat_tests)
-  home_kept n f b (Poison_read_shared p s) g lp home hp = grind (arith, nat_tests)
-  home_kept n f b (Poison_read_owned p o) g lp home hp = grind (arith, nat_tests)
-  home_kept n f b (Poison_read_busy p) g lp home hp = grind (arith, nat_tests)
-  home_kept n f b (Write_back_busy_poison p r l) g lp home hp = grind (arith, nat_tests)
-  home_kept n f b (Revision_poison_back o r l) g lp home hp = grind (arith, nat_tests)
-  home_kept n f b (Revision_poison_clean o r) g lp home hp = grind (arith, nat_tests)
-  home_kept n f b (Intervention_poison_dirty p r l) g lp home hp = grind (arith, nat_tests)
-  home_kept n f b (Intervention_poison_clean p r) g lp home hp = grind (arith, nat_tests)
-  home_kept n f b (Poison_collected p l d) g lp home hp = grind (arith, nat_tests)
-  home_kept n f b (Read_poison p o) g lp home hp = grind (arith, nat_tests)
-  home_kept n f b (Read_exclusive_poison p o) g lp home hp = grind (arith, nat_tests)
-  home_kept n f b (Upgrade_poison p o) g lp home hp = grind (arith, nat_tests)
-  home_kept n f b (Poisoned p) g lp home hp = grind (arith, nat_tests)
-  home_kept n f b (Copy_in p v) g lp home hp = grind (arith, nat_tests)
-
   pub kept : (n : ℕ) (f : L) (b : Block L) (r : Row L) → guard r b → Invariant n f b → actor_of r < n → Invariant n (flat_after r f) (apply n r b)
   kept n f b r g inv lp = record { each = λ q lq. local q lq (inv.each (actor_of r) lp) (inv.each q lq); home = home_kept n f b r g lp inv.home (inv.each (actor_of r) lp) }
     where
       local : (q : ℕ) → q < n → Local n f b (actor_of r) → Local n f b q → Local n (flat_after r f) (apply n r b) q
-      local q lq hp hq = record { asks = asks_kept n f q b r g inv lp lq inv.home hp hq; rests = rests_kept n f q b r g inv lp lq inv.home hp hq; backs = backs_kept n f q b r g inv lp lq inv.home hp hq; owned = owned_kept n f q b r g inv lp lq inv.home hp hq; spent = spent_kept n f q b r g inv lp lq inv.home hp hq; waits = waits_kept n f q b r g inv lp lq inv.home hp hq; trusted = trusted_kept n f q b r g inv lp lq inv.home hp hq; intervened = intervened_kept n f q b r g inv lp lq inv.home hp hq; early = early_kept n f q b r g inv lp lq inv.home hp hq; sent = sent_kept n f q b r g inv lp lq inv.home hp hq; fresh = fresh_kept n f q b r g inv lp lq inv.home hp hq; covered = covered_kept n f q b r g inv lp lq inv.home hp hq; counted = counted_kept n f q b r g inv lp lq inv.home hp hq; upgrades = upgrades_kept n f q b r g inv lp lq inv.home hp hq }
+      local q lq hp hq = record {
+        asks = asks_kept n f q b r g inv lp lq inv.home hp hq;
+        rests = rests_kept n f q b r g inv lp lq inv.home hp hq;
+        backs = backs_kept n f q b r g inv lp lq inv.home hp hq;
+        owned = owned_kept n f q b r g inv lp lq inv.home hp hq;
+        spent = spent_kept n f q b r g inv lp lq inv.home hp hq;
+        waits = waits_kept n f q b r g inv lp lq inv.home hp hq;
+        trusted = trusted_kept n f q b r g inv lp lq inv.home hp hq;
+        intervened = intervened_kept n f q b r g inv lp lq inv.home hp hq;
+        early = early_kept n f q b r g inv lp lq inv.home hp hq;
+        sent = sent_kept n f q b r g inv lp lq inv.home hp hq;
+        fresh = fresh_kept n f q b r g inv lp lq inv.home hp hq;
+        covered = covered_kept n f q b r g inv lp lq inv.home hp hq;
+        counted = counted_kept n f q b r g inv lp lq inv.home hp hq;
+        upgrades = upgrades_kept n f q b r g inv lp lq inv.home hp hq;
+      }

@@ -1,10 +1,10 @@
--- What follows from the invariant of a node that has the only copy, and lemmas that take only the parts that they need.
+-- What follows from the invariant of the holder, and of all others while there is one.
 use Rattle.std.proofs.Common.{◌≡◌, ℕ, ◌<◌, Bool, true, false, arith, ◌≢◌, ◌⊎◌, refl}
 use Rattle.std.proofs.lemmas.Bool.Decides.{nat_tests}
 use Rattle.og_block.proofs.Pending.{pending_none}
 use Rattle.og_block.specs.State.{Block, Entry, Revision, WriteBack, Want, Idle, Ask, Response, Copy, Back, Invalidation, NoInvalidation, Invalidate, InvalidateAck}
-use Rattle.og_block.specs.Rows.{guard, apply, Intervention_victim_busy, Intervention_victim_first, Intervention_shared_none, Send_upgrade, Store, Fill_exclusive, Fill_exclusive_answered, Fill_upgrade, Copy_in}
-use Rattle.og_block.specs.Invariant.{Invariant, Local, is_holder, is_sharer, is_invalidate, trusts, trusts_at, owns, Asks, Rests, Backs, Owned, Spent, Waits, Intervened, Sent, Fresh, Counted, pending, is_for, Sent_by, Fresh_ask, Fresh_copy, Fresh_back}
+use Rattle.og_block.specs.Rows.{guard, Copy_in}
+use Rattle.og_block.specs.Invariant.{Invariant, Local, is_holder, is_sharer, is_invalidate, trusts, trusts_at, owns, Asks, Rests, Backs, Owned, Sent, Fresh, Counted, pending, is_for, Sent_by, Fresh_ask, Fresh_copy, Fresh_back}
 
 module _ {L : Type 0} where
   pub holder_is_one : (e : Entry) (v : Revision L) (p q : ℕ) → is_holder e v p ≡ true → is_holder e v q ≡ true → p ≡ q
@@ -46,20 +46,8 @@ module _ {L : Type 0} where
       backs : (k : Back L) → owns (b.copy q) (b.want q) (b.ask q) (b.response q) k ≡ false → Fresh_back g k
       backs k o = grind arith
 
-      asks_ : (w : Want L) (a : Ask L) (r : Response L) → Asks b q → trusts (b.copy q) w a r ≡ false → owns (b.copy q) w a r (b.back q) ≡ false → Fresh_ask f b.line w a r → Fresh_ask g b.line w a r
+      asks_ : (w : Want) (a : Ask L) (r : Response L) → Asks b q → trusts (b.copy q) w a r ≡ false → owns (b.copy q) w a r (b.back q) ≡ false → Fresh_ask f b.line w a r → Fresh_ask g b.line w a r
       asks_ w a r x t o h = grind arith
-
-  pub fresh_Send_upgrade_ : (n : ℕ) (f : L) (q : ℕ) (p : ℕ) (v : L) (l : L) (b : Block L) → guard (Send_upgrade p v l) b → Asks b q → Fresh f b q → Fresh f (apply n (Send_upgrade p v l) b) q
-  fresh_Send_upgrade_ n f q p v l b g a h = grind (arith, nat_tests)
-
-  pub intervened_Intervention_victim_busy_ : (n q p : ℕ) (b : Block L) → guard (Intervention_victim_busy p) b → Backs b q → Intervened b q → Spent b p → Intervened (apply n (Intervention_victim_busy p) b) q
-  intervened_Intervention_victim_busy_ n q p b g k h s = grind (arith, nat_tests)
-
-  pub intervened_Intervention_victim_first_ : (n q p : ℕ) (b : Block L) → guard (Intervention_victim_first p) b → Backs b q → Intervened b q → Intervened (apply n (Intervention_victim_first p) b) q
-  intervened_Intervention_victim_first_ n q p b g k h = grind (arith, nat_tests)
-
-  pub owned_Intervention_shared_none_ : (n q p r : ℕ) (b : Block L) → guard (Intervention_shared_none p r) b → Backs b p → Intervened b p → Asks b p → Asks b q → Waits b q → Owned b q → Owned (apply n (Intervention_shared_none p r) b) q
-  owned_Intervention_shared_none_ n q p r b g k h ap a w o = grind (arith, nat_tests)
 
   -- a node other than a holder that waits for no acknowledgement has no line that a store makes old
   pub fresh_other : (n : ℕ) (f : L) (g : L) (p : ℕ) (q : ℕ) (b : Block L) → Invariant n f b → q < n → is_holder b.entry b.revision p ≡ true → pending n b p ≡ 0 → q ≢ p → Fresh g b q
@@ -84,32 +72,8 @@ module _ {L : Type 0} where
   pub idle_waits : (n q : ℕ) (b : Block L) → b.want q ≡ Idle → Asks b q → Counted n b q → pending n b q ≡ 0
   idle_waits n q b w a c = grind arith
 
-  pub no_inval_sent : (n q : ℕ) (b : Block L) → b.invalidation q ≡ NoInvalidation → Sent n b q
-  no_inval_sent n q b e = grind arith
-
-  pub fresh_Store_ : (n : ℕ) (f : L) (q : ℕ) (p : ℕ) (v : L) (b : Block L) → guard (Store p v) b → Asks b p → Rests b p → Backs b p → (q ≢ p → Fresh v b q) → Fresh v (apply n (Store p v) b) q
-  fresh_Store_ n f q p v b g a r k h = grind (arith, nat_tests)
-
-  pub fresh_Fill_exclusive_ : (n : ℕ) (f : L) (q : ℕ) (p : ℕ) (v : L) (l : L) (d : ℕ) (b : Block L) → guard (Fill_exclusive p v l d) b → Asks b p → Rests b p → Backs b p → (q ≢ p → Fresh v b q) → Fresh v (apply n (Fill_exclusive p v l d) b) q
-  fresh_Fill_exclusive_ n f q p v l d b g a r k h = grind (arith, nat_tests)
-
-  pub fresh_Fill_exclusive_answered_ : (n : ℕ) (f : L) (q : ℕ) (p : ℕ) (v : L) (m : L) (l : L) (b : Block L) → guard (Fill_exclusive_answered p v m l) b → Asks b p → Rests b p → Backs b p → (q ≢ p → Fresh v b q) → Fresh v (apply n (Fill_exclusive_answered p v m l) b) q
-  fresh_Fill_exclusive_answered_ n f q p v m l b g a r k h = grind (arith, nat_tests)
-
-  pub fresh_Fill_upgrade_ : (n : ℕ) (f : L) (q : ℕ) (p : ℕ) (v : L) (l : L) (d : ℕ) (b : Block L) → guard (Fill_upgrade p v l d) b → Asks b p → Rests b p → Backs b p → (q ≢ p → Fresh v b q) → Fresh v (apply n (Fill_upgrade p v l d) b) q
-  fresh_Fill_upgrade_ n f q p v l d b g a r k h = grind (arith, nat_tests)
-
-  pub writer_Store : (n : ℕ) (p : ℕ) (v : L) (b : Block L) → guard (Store p v) b → Asks b p → Owned b p → Counted n b p → (is_holder b.entry b.revision p ≡ true) × (pending n b p ≡ 0)
-  writer_Store n p v b g a o c = grind arith
-
-  pub writer_Fill_exclusive : (n : ℕ) (p : ℕ) (v : L) (l : L) (d : ℕ) (b : Block L) → guard (Fill_exclusive p v l d) b → Asks b p → Owned b p → Counted n b p → (is_holder b.entry b.revision p ≡ true) × (pending n b p ≡ 0)
-  writer_Fill_exclusive n p v l d b g a o c = grind arith
-
-  pub writer_Fill_exclusive_answered : (n : ℕ) (p : ℕ) (v : L) (m : L) (l : L) (b : Block L) → guard (Fill_exclusive_answered p v m l) b → Asks b p → Owned b p → Counted n b p → (is_holder b.entry b.revision p ≡ true) × (pending n b p ≡ 0)
-  writer_Fill_exclusive_answered n p v m l b g a o c = grind arith
-
-  pub writer_Fill_upgrade : (n : ℕ) (p : ℕ) (v : L) (l : L) (d : ℕ) (b : Block L) → guard (Fill_upgrade p v l d) b → Asks b p → Owned b p → Counted n b p → (is_holder b.entry b.revision p ≡ true) × (pending n b p ≡ 0)
-  writer_Fill_upgrade n p v l d b g a o c = grind arith
+  pub no_invalidation_sent : (n q : ℕ) (b : Block L) → b.invalidation q ≡ NoInvalidation → Sent n b q
+  no_invalidation_sent n q b e = grind arith
 
   holder_Copy_in : (b : Block L) (p : ℕ) (v : L) → guard (Copy_in p v) b → is_holder b.entry b.revision p ≡ true
   holder_Copy_in b p v g = grind (arith, nat_tests)
@@ -124,7 +88,7 @@ module _ {L : Type 0} where
       let hp : Local n f b p = inv.each p lp in
       no_other_trusts n f p q b inv lq (holder_Copy_in b p v g) (idle_waits n p b g.1 hp.asks hp.counted) ne
 
-  pub fresh_Copy_in_ : (n : ℕ) (f : L) (p : ℕ) (q : ℕ) (v : L) (b : Block L) → guard (Copy_in p v) b → Invariant n f b → p < n → q < n → q ≢ p → Fresh v b q
-  fresh_Copy_in_ n f p q v b g inv lp lq ne =
+  pub fresh_other_Copy_in : (n : ℕ) (f : L) (p : ℕ) (q : ℕ) (v : L) (b : Block L) → guard (Copy_in p v) b → Invariant n f b → p < n → q < n → q ≢ p → Fresh v b q
+  fresh_other_Copy_in n f p q v b g inv lp lq ne =
       let hp : Local n f b p = inv.each p lp in
       fresh_other n f v p q b inv lq (holder_Copy_in b p v g) (idle_waits n p b g.1 hp.asks hp.counted) ne

@@ -1,42 +1,54 @@
 -- The part `asks` is kept by each row.
 use Rattle.std.proofs.Common.{ℕ, ◌<◌, arith}
 use Rattle.std.proofs.lemmas.Bool.Decides.{nat_tests}
-use Rattle.og_block.proofs.Hard.{asks_Acknowledged}
+use Rattle.og_block.proofs.Hard_counted.{asks_Acknowledged}
 use Rattle.og_block.specs.State.{Block}
-use Rattle.og_block.specs.Rows.{Row, guard, apply, actor_of, Send_read, Send_read_exclusive, Send_upgrade, Load_shared, Load_clean, Load_dirty, Store, Forget, Evict, Read_unowned, Read_shared, Read_by_owner, Read_owned, Read_busy, Read_exclusive_unowned, Read_exclusive_shared, Read_exclusive_by_owner, Read_exclusive_owned, Read_exclusive_busy, Upgrade_shared, Upgrade_refused, Write_back_owner, Write_back_busy_shared, Write_back_busy_exclusive, Write_back_requester, Revision_sharing_write_back, Revision_sharing_transfer, Revision_dirty_transfer, Revision_returned, Fill_shared, Again_shared, Fill_clean, Fill_shared_answered, Fill_shared_speculative, Again_speculative, Fill_exclusive, Fill_exclusive_answered, Fill_upgrade, Again_refused, Again_upgrade_refused, Acknowledged, Invalidated, Intervention_victim_busy, Intervention_victim_first, Intervention_shared_dirty, Intervention_shared_clean, Intervention_shared_none, Intervention_exclusive_dirty, Intervention_exclusive_clean, Write_back_ack, Write_back_busy_ack_seen, Write_back_busy_ack_first, Send_poison_read, Poison_read_unowned, Poison_read_shared, Poison_read_owned, Poison_read_busy, Write_back_busy_poison, Revision_poison_back, Revision_poison_clean, Intervention_poison_dirty, Intervention_poison_clean, Poison_collected, Read_poison, Read_exclusive_poison, Upgrade_poison, Poisoned, Copy_in}
+use Rattle.og_block.specs.Rows.{Row, guard, apply, actor_of, Send_read, Send_read_exclusive, Send_upgrade, Load_shared, Load_clean, Load_dirty, Store, Forget, Evict, Read_unowned, Read_shared, Read_by_owner, Read_owned, Read_busy, Read_poison, Read_exclusive_unowned, Read_exclusive_shared, Read_exclusive_by_owner, Read_exclusive_owned, Read_exclusive_busy, Read_exclusive_poison, Upgrade_shared, Upgrade_grouped, Upgrade_refused, Upgrade_poison, Write_back_owner, Write_back_busy_shared, Write_back_busy_exclusive, Write_back_requester, Write_back_busy_poison, Revision_sharing_write_back, Revision_sharing_transfer, Revision_dirty_transfer, Revision_returned, Revision_poison_back, Revision_poison_clean, Poison_read_unowned, Poison_read_shared, Poison_read_owned, Poison_read_busy, Copy_in, Fill_shared, Again_shared, Fill_clean, Fill_shared_answered, Fill_shared_speculative, Again_speculative, Fill_exclusive, Fill_exclusive_answered, Fill_exclusive_speculative, Fill_upgrade, Fill_upgrade_line, Again_refused, Again_upgrade_refused, Poisoned, Poison_collected, Invalidated, Acknowledged, Intervention_victim_busy, Intervention_victim_first, Intervention_shared_dirty, Intervention_shared_clean, Intervention_shared_none, Intervention_exclusive_dirty, Intervention_exclusive_clean, Intervention_poison_dirty, Intervention_poison_clean, Write_back_ack, Write_back_busy_ack_seen, Write_back_busy_ack_first, Send_poison_read}
 use Rattle.og_block.specs.Invariant.{Invariant, Local, Home, Asks}
 
 module _ {L : Type 0} where
   pub asks_kept : (n : ℕ) (f : L) (q : ℕ) (b : Block L) (r : Row L) → guard r b → Invariant n f b → actor_of r < n → q < n → Home n f b → Local n f b (actor_of r) → Local n f b q → Asks (apply n r b) q
   asks_kept n f q b (Send_read p) g _ lp lq home hp hq = grind (arith, nat_tests)
-  asks_kept n f q b (Send_read_exclusive p v) g _ lp lq home hp hq = grind (arith, nat_tests)
-  asks_kept n f q b (Send_upgrade p v l) g _ lp lq home hp hq = grind (arith, nat_tests)
-  asks_kept n f q b (Load_shared p l) g _ lp lq home hp hq = grind (arith, nat_tests)
-  asks_kept n f q b (Load_clean p l) g _ lp lq home hp hq = grind (arith, nat_tests)
-  asks_kept n f q b (Load_dirty p l) g _ lp lq home hp hq = grind (arith, nat_tests)
-  asks_kept n f q b (Store p v) g _ lp lq home hp hq = grind (arith, nat_tests)
-  asks_kept n f q b (Forget p) g _ lp lq home hp hq = grind (arith, nat_tests)
-  asks_kept n f q b (Evict p l) g _ lp lq home hp hq = grind (arith, nat_tests)
+  asks_kept n f q b (Send_read_exclusive p) g _ lp lq home hp hq = grind (arith, nat_tests)
+  asks_kept n f q b (Send_upgrade p l) g _ lp lq home hp hq = grind (arith, nat_tests)
+  asks_kept n f q b (Load_shared p l) g _ lp lq home hp hq = hq.asks
+  asks_kept n f q b (Load_clean p l) g _ lp lq home hp hq = hq.asks
+  asks_kept n f q b (Load_dirty p l) g _ lp lq home hp hq = hq.asks
+  asks_kept n f q b (Store p v l) g _ lp lq home hp hq = hq.asks
+  asks_kept n f q b (Forget p) g _ lp lq home hp hq = hq.asks
+  asks_kept n f q b (Evict p l) g _ lp lq home hp hq = hq.asks
   asks_kept n f q b (Read_unowned p) g _ lp lq home hp hq = grind (arith, nat_tests)
   asks_kept n f q b (Read_shared p s) g _ lp lq home hp hq = grind (arith, nat_tests)
   asks_kept n f q b (Read_by_owner p) g _ lp lq home hp hq = grind (arith, nat_tests)
   asks_kept n f q b (Read_owned p o) g _ lp lq home hp hq = grind (arith, nat_tests)
   asks_kept n f q b (Read_busy p) g _ lp lq home hp hq = grind (arith, nat_tests)
+  asks_kept n f q b (Read_poison p o) g _ lp lq home hp hq = grind (arith, nat_tests)
   asks_kept n f q b (Read_exclusive_unowned p) g _ lp lq home hp hq = grind (arith, nat_tests)
   asks_kept n f q b (Read_exclusive_shared p s) g _ lp lq home hp hq = grind (arith, nat_tests)
   asks_kept n f q b (Read_exclusive_by_owner p) g _ lp lq home hp hq = grind (arith, nat_tests)
   asks_kept n f q b (Read_exclusive_owned p o) g _ lp lq home hp hq = grind (arith, nat_tests)
   asks_kept n f q b (Read_exclusive_busy p) g _ lp lq home hp hq = grind (arith, nat_tests)
+  asks_kept n f q b (Read_exclusive_poison p o) g _ lp lq home hp hq = grind (arith, nat_tests)
   asks_kept n f q b (Upgrade_shared p s) g _ lp lq home hp hq = grind (arith, nat_tests)
+  asks_kept n f q b (Upgrade_grouped p s) g _ lp lq home hp hq = grind (arith, nat_tests)
   asks_kept n f q b (Upgrade_refused p) g _ lp lq home hp hq = grind (arith, nat_tests)
-  asks_kept n f q b (Write_back_owner p l) g _ lp lq home hp hq = grind (arith, nat_tests)
+  asks_kept n f q b (Upgrade_poison p o) g _ lp lq home hp hq = grind (arith, nat_tests)
+  asks_kept n f q b (Write_back_owner p l) g _ lp lq home hp hq = hq.asks
   asks_kept n f q b (Write_back_busy_shared p r l) g _ lp lq home hp hq = grind (arith, nat_tests)
   asks_kept n f q b (Write_back_busy_exclusive p r l) g _ lp lq home hp hq = grind (arith, nat_tests)
-  asks_kept n f q b (Write_back_requester p o l) g _ lp lq home hp hq = grind (arith, nat_tests)
-  asks_kept n f q b (Revision_sharing_write_back o r l) g _ lp lq home hp hq = grind (arith, nat_tests)
-  asks_kept n f q b (Revision_sharing_transfer o r) g _ lp lq home hp hq = grind (arith, nat_tests)
-  asks_kept n f q b (Revision_dirty_transfer o r) g _ lp lq home hp hq = grind (arith, nat_tests)
-  asks_kept n f q b (Revision_returned o r) g _ lp lq home hp hq = grind (arith, nat_tests)
+  asks_kept n f q b (Write_back_requester p o l) g _ lp lq home hp hq = hq.asks
+  asks_kept n f q b (Write_back_busy_poison p r l) g _ lp lq home hp hq = grind (arith, nat_tests)
+  asks_kept n f q b (Revision_sharing_write_back o r l) g _ lp lq home hp hq = hq.asks
+  asks_kept n f q b (Revision_sharing_transfer o r) g _ lp lq home hp hq = hq.asks
+  asks_kept n f q b (Revision_dirty_transfer o r) g _ lp lq home hp hq = hq.asks
+  asks_kept n f q b (Revision_returned o r) g _ lp lq home hp hq = hq.asks
+  asks_kept n f q b (Revision_poison_back o r l) g _ lp lq home hp hq = grind (arith, nat_tests)
+  asks_kept n f q b (Revision_poison_clean o r) g _ lp lq home hp hq = grind (arith, nat_tests)
+  asks_kept n f q b (Poison_read_unowned p) g _ lp lq home hp hq = grind (arith, nat_tests)
+  asks_kept n f q b (Poison_read_shared p s) g _ lp lq home hp hq = grind (arith, nat_tests)
+  asks_kept n f q b (Poison_read_owned p o) g _ lp lq home hp hq = grind (arith, nat_tests)
+  asks_kept n f q b (Poison_read_busy p) g _ lp lq home hp hq = grind (arith, nat_tests)
+  asks_kept n f q b (Copy_in p v) g _ lp lq home hp hq = hq.asks
   asks_kept n f q b (Fill_shared p l) g _ lp lq home hp hq = grind (arith, nat_tests)
   asks_kept n f q b (Again_shared p l) g _ lp lq home hp hq = grind (arith, nat_tests)
   asks_kept n f q b (Fill_clean p l m) g _ lp lq home hp hq = grind (arith, nat_tests)
@@ -45,34 +57,25 @@ module _ {L : Type 0} where
   asks_kept n f q b (Again_speculative p m) g _ lp lq home hp hq = grind (arith, nat_tests)
   asks_kept n f q b (Fill_exclusive p v l d) g _ lp lq home hp hq = grind (arith, nat_tests)
   asks_kept n f q b (Fill_exclusive_answered p v m l) g _ lp lq home hp hq = grind (arith, nat_tests)
+  asks_kept n f q b (Fill_exclusive_speculative p v m) g _ lp lq home hp hq = grind (arith, nat_tests)
   asks_kept n f q b (Fill_upgrade p v l d) g _ lp lq home hp hq = grind (arith, nat_tests)
+  asks_kept n f q b (Fill_upgrade_line p v l d) g _ lp lq home hp hq = grind (arith, nat_tests)
   asks_kept n f q b (Again_refused p) g _ lp lq home hp hq = grind (arith, nat_tests)
   asks_kept n f q b (Again_upgrade_refused p) g _ lp lq home hp hq = grind (arith, nat_tests)
-  asks_kept n f q b (Acknowledged p r) g inv lp lq home hp hq = asks_Acknowledged n f q p r b g inv lp lq
+  asks_kept n f q b (Poisoned p) g _ lp lq home hp hq = grind (arith, nat_tests)
+  asks_kept n f q b (Poison_collected p l d) g _ lp lq home hp hq = grind (arith, nat_tests)
   asks_kept n f q b (Invalidated p r) g _ lp lq home hp hq = grind (arith, nat_tests)
-  asks_kept n f q b (Intervention_victim_busy p) g _ lp lq home hp hq = grind (arith, nat_tests)
-  asks_kept n f q b (Intervention_victim_first p) g _ lp lq home hp hq = grind (arith, nat_tests)
+  asks_kept n f q b (Acknowledged p r) g inv lp lq home hp hq = asks_Acknowledged n f q p r b g inv lp lq
+  asks_kept n f q b (Intervention_victim_busy p) g _ lp lq home hp hq = hq.asks
+  asks_kept n f q b (Intervention_victim_first p) g _ lp lq home hp hq = hq.asks
   asks_kept n f q b (Intervention_shared_dirty p r l) g _ lp lq home hp hq = grind (arith, nat_tests)
   asks_kept n f q b (Intervention_shared_clean p r l) g _ lp lq home hp hq = grind (arith, nat_tests)
   asks_kept n f q b (Intervention_shared_none p r) g _ lp lq home hp hq = grind (arith, nat_tests)
   asks_kept n f q b (Intervention_exclusive_dirty p r l) g _ lp lq home hp hq = grind (arith, nat_tests)
   asks_kept n f q b (Intervention_exclusive_clean p r) g _ lp lq home hp hq = grind (arith, nat_tests)
-  asks_kept n f q b (Write_back_ack p) g _ lp lq home hp hq = grind (arith, nat_tests)
-  asks_kept n f q b (Write_back_busy_ack_seen p) g _ lp lq home hp hq = grind (arith, nat_tests)
-  asks_kept n f q b (Write_back_busy_ack_first p) g _ lp lq home hp hq = grind (arith, nat_tests)
+  asks_kept n f q b (Intervention_poison_dirty p r l) g _ lp lq home hp hq = hq.asks
+  asks_kept n f q b (Intervention_poison_clean p r) g _ lp lq home hp hq = hq.asks
+  asks_kept n f q b (Write_back_ack p) g _ lp lq home hp hq = hq.asks
+  asks_kept n f q b (Write_back_busy_ack_seen p) g _ lp lq home hp hq = hq.asks
+  asks_kept n f q b (Write_back_busy_ack_first p) g _ lp lq home hp hq = hq.asks
   asks_kept n f q b (Send_poison_read p) g _ lp lq home hp hq = grind (arith, nat_tests)
-  asks_kept n f q b (Poison_read_unowned p) g _ lp lq home hp hq = grind (arith, nat_tests)
-  asks_kept n f q b (Poison_read_shared p s) g _ lp lq home hp hq = grind (arith, nat_tests)
-  asks_kept n f q b (Poison_read_owned p o) g _ lp lq home hp hq = grind (arith, nat_tests)
-  asks_kept n f q b (Poison_read_busy p) g _ lp lq home hp hq = grind (arith, nat_tests)
-  asks_kept n f q b (Write_back_busy_poison p r l) g _ lp lq home hp hq = grind (arith, nat_tests)
-  asks_kept n f q b (Revision_poison_back o r l) g _ lp lq home hp hq = grind (arith, nat_tests)
-  asks_kept n f q b (Revision_poison_clean o r) g _ lp lq home hp hq = grind (arith, nat_tests)
-  asks_kept n f q b (Intervention_poison_dirty p r l) g _ lp lq home hp hq = grind (arith, nat_tests)
-  asks_kept n f q b (Intervention_poison_clean p r) g _ lp lq home hp hq = grind (arith, nat_tests)
-  asks_kept n f q b (Poison_collected p l d) g _ lp lq home hp hq = grind (arith, nat_tests)
-  asks_kept n f q b (Read_poison p o) g _ lp lq home hp hq = grind (arith, nat_tests)
-  asks_kept n f q b (Read_exclusive_poison p o) g _ lp lq home hp hq = grind (arith, nat_tests)
-  asks_kept n f q b (Upgrade_poison p o) g _ lp lq home hp hq = grind (arith, nat_tests)
-  asks_kept n f q b (Poisoned p) g _ lp lq home hp hq = grind (arith, nat_tests)
-  asks_kept n f q b (Copy_in p v) g _ lp lq home hp hq = grind (arith, nat_tests)

@@ -1,7 +1,9 @@
 pub mod Pending
 pub mod Alone
-pub mod Hard
-pub mod Covers
+pub mod Hard_counted
+pub mod Hard_fresh
+pub mod Hard_owned
+pub mod Hard_sent
 pub mod Kept_asks
 pub mod Kept_rests
 pub mod Kept_backs
@@ -16,7 +18,7 @@ pub mod Kept_fresh
 pub mod Kept_covered
 pub mod Kept_counted
 pub mod Kept_upgrades
+pub mod Kept_home
 pub mod All
+pub mod Held
 pub mod Run
-pub mod Served
-pub mod Blocks

@@ -1,0 +1,81 @@
+-- What the invariant says of the home alone is kept by each row.
+use Rattle.std.proofs.Common.{ℕ, ◌<◌, arith}
+use Rattle.std.proofs.lemmas.Bool.Decides.{nat_tests}
+use Rattle.og_block.specs.State.{Block}
+use Rattle.og_block.specs.Access.{flat_after}
+use Rattle.og_block.specs.Rows.{Row, guard, apply, actor_of, Send_read, Send_read_exclusive, Send_upgrade, Load_shared, Load_clean, Load_dirty, Store, Forget, Evict, Read_unowned, Read_shared, Read_by_owner, Read_owned, Read_busy, Read_poison, Read_exclusive_unowned, Read_exclusive_shared, Read_exclusive_by_owner, Read_exclusive_owned, Read_exclusive_busy, Read_exclusive_poison, Upgrade_shared, Upgrade_grouped, Upgrade_refused, Upgrade_poison, Write_back_owner, Write_back_busy_shared, Write_back_busy_exclusive, Write_back_requester, Write_back_busy_poison, Revision_sharing_write_back, Revision_sharing_transfer, Revision_dirty_transfer, Revision_returned, Revision_poison_back, Revision_poison_clean, Poison_read_unowned, Poison_read_shared, Poison_read_owned, Poison_read_busy, Copy_in, Fill_shared, Again_shared, Fill_clean, Fill_shared_answered, Fill_shared_speculative, Again_speculative, Fill_exclusive, Fill_exclusive_answered, Fill_exclusive_speculative, Fill_upgrade, Fill_upgrade_line, Again_refused, Again_upgrade_refused, Poisoned, Poison_collected, Invalidated, Acknowledged, Intervention_victim_busy, Intervention_victim_first, Intervention_shared_dirty, Intervention_shared_clean, Intervention_shared_none, Intervention_exclusive_dirty, Intervention_exclusive_clean, Intervention_poison_dirty, Intervention_poison_clean, Write_back_ack, Write_back_busy_ack_seen, Write_back_busy_ack_first, Send_poison_read}
+use Rattle.og_block.specs.Invariant.{Local, Home}
+
+module _ {L : Type 0} where
+  pub home_kept : (n : ℕ) (f : L) (b : Block L) (r : Row L) → guard r b → actor_of r < n → Home n f b → Local n f b (actor_of r) → Home n (flat_after r f) (apply n r b)
+  home_kept n f b (Send_read p) g lp home hp = record { revised = home.revised; inside = home.inside; memory = home.memory }
+  home_kept n f b (Send_read_exclusive p) g lp home hp = record { revised = home.revised; inside = home.inside; memory = home.memory }
+  home_kept n f b (Send_upgrade p l) g lp home hp = record { revised = home.revised; inside = home.inside; memory = home.memory }
+  home_kept n f b (Load_shared p l) g lp home hp = record { revised = home.revised; inside = home.inside; memory = home.memory }
+  home_kept n f b (Load_clean p l) g lp home hp = record { revised = home.revised; inside = home.inside; memory = home.memory }
+  home_kept n f b (Load_dirty p l) g lp home hp = record { revised = home.revised; inside = home.inside; memory = home.memory }
+  home_kept n f b (Store p v l) g lp home hp = grind (arith, nat_tests)
+  home_kept n f b (Forget p) g lp home hp = record { revised = home.revised; inside = home.inside; memory = home.memory }
+  home_kept n f b (Evict p l) g lp home hp = record { revised = home.revised; inside = home.inside; memory = home.memory }
+  home_kept n f b (Read_unowned p) g lp home hp = grind (arith, nat_tests)
+  home_kept n f b (Read_shared p s) g lp home hp = grind (arith, nat_tests)
+  home_kept n f b (Read_by_owner p) g lp home hp = record { revised = home.revised; inside = home.inside; memory = home.memory }
+  home_kept n f b (Read_owned p o) g lp home hp = grind (arith, nat_tests)
+  home_kept n f b (Read_busy p) g lp home hp = record { revised = home.revised; inside = home.inside; memory = home.memory }
+  home_kept n f b (Read_poison p o) g lp home hp = record { revised = home.revised; inside = home.inside; memory = home.memory }
+  home_kept n f b (Read_exclusive_unowned p) g lp home hp = grind (arith, nat_tests)
+  home_kept n f b (Read_exclusive_shared p s) g lp home hp = grind (arith, nat_tests)
+  home_kept n f b (Read_exclusive_by_owner p) g lp home hp = record { revised = home.revised; inside = home.inside; memory = home.memory }
+  home_kept n f b (Read_exclusive_owned p o) g lp home hp = grind (arith, nat_tests)
+  home_kept n f b (Read_exclusive_busy p) g lp home hp = record { revised = home.revised; inside = home.inside; memory = home.memory }
+  home_kept n f b (Read_exclusive_poison p o) g lp home hp = record { revised = home.revised; inside = home.inside; memory = home.memory }
+  home_kept n f b (Upgrade_shared p s) g lp home hp = grind (arith, nat_tests)
+  home_kept n f b (Upgrade_grouped p s) g lp home hp = grind (arith, nat_tests)
+  home_kept n f b (Upgrade_refused p) g lp home hp = record { revised = home.revised; inside = home.inside; memory = home.memory }
+  home_kept n f b (Upgrade_poison p o) g lp home hp = record { revised = home.revised; inside = home.inside; memory = home.memory }
+  home_kept n f b (Write_back_owner p l) g lp home hp = grind (arith, nat_tests)
+  home_kept n f b (Write_back_busy_shared p r l) g lp home hp = grind (arith, nat_tests)
+  home_kept n f b (Write_back_busy_exclusive p r l) g lp home hp = grind (arith, nat_tests)
+  home_kept n f b (Write_back_requester p o l) g lp home hp = grind (arith, nat_tests)
+  home_kept n f b (Write_back_busy_poison p r l) g lp home hp = grind (arith, nat_tests)
+  home_kept n f b (Revision_sharing_write_back o r l) g lp home hp = grind (arith, nat_tests)
+  home_kept n f b (Revision_sharing_transfer o r) g lp home hp = grind (arith, nat_tests)
+  home_kept n f b (Revision_dirty_transfer o r) g lp home hp = grind (arith, nat_tests)
+  home_kept n f b (Revision_returned o r) g lp home hp = grind (arith, nat_tests)
+  home_kept n f b (Revision_poison_back o r l) g lp home hp = grind (arith, nat_tests)
+  home_kept n f b (Revision_poison_clean o r) g lp home hp = grind (arith, nat_tests)
+  home_kept n f b (Poison_read_unowned p) g lp home hp = grind (arith, nat_tests)
+  home_kept n f b (Poison_read_shared p s) g lp home hp = grind (arith, nat_tests)
+  home_kept n f b (Poison_read_owned p o) g lp home hp = grind (arith, nat_tests)
+  home_kept n f b (Poison_read_busy p) g lp home hp = record { revised = home.revised; inside = home.inside; memory = home.memory }
+  home_kept n f b (Copy_in p v) g lp home hp = grind (arith, nat_tests)
+  home_kept n f b (Fill_shared p l) g lp home hp = record { revised = home.revised; inside = home.inside; memory = home.memory }
+  home_kept n f b (Again_shared p l) g lp home hp = record { revised = home.revised; inside = home.inside; memory = home.memory }
+  home_kept n f b (Fill_clean p l m) g lp home hp = record { revised = home.revised; inside = home.inside; memory = home.memory }
+  home_kept n f b (Fill_shared_answered p l m) g lp home hp = record { revised = home.revised; inside = home.inside; memory = home.memory }
+  home_kept n f b (Fill_shared_speculative p m) g lp home hp = record { revised = home.revised; inside = home.inside; memory = home.memory }
+  home_kept n f b (Again_speculative p m) g lp home hp = record { revised = home.revised; inside = home.inside; memory = home.memory }
+  home_kept n f b (Fill_exclusive p v l d) g lp home hp = grind (arith, nat_tests)
+  home_kept n f b (Fill_exclusive_answered p v m l) g lp home hp = grind (arith, nat_tests)
+  home_kept n f b (Fill_exclusive_speculative p v m) g lp home hp = grind (arith, nat_tests)
+  home_kept n f b (Fill_upgrade p v l d) g lp home hp = grind (arith, nat_tests)
+  home_kept n f b (Fill_upgrade_line p v l d) g lp home hp = grind (arith, nat_tests)
+  home_kept n f b (Again_refused p) g lp home hp = record { revised = home.revised; inside = home.inside; memory = home.memory }
+  home_kept n f b (Again_upgrade_refused p) g lp home hp = record { revised = home.revised; inside = home.inside; memory = home.memory }
+  home_kept n f b (Poisoned p) g lp home hp = record { revised = home.revised; inside = home.inside; memory = home.memory }
+  home_kept n f b (Poison_collected p l d) g lp home hp = record { revised = home.revised; inside = home.inside; memory = home.memory }
+  home_kept n f b (Invalidated p r) g lp home hp = record { revised = home.revised; inside = home.inside; memory = home.memory }
+  home_kept n f b (Acknowledged p r) g lp home hp = record { revised = home.revised; inside = home.inside; memory = home.memory }
+  home_kept n f b (Intervention_victim_busy p) g lp home hp = record { revised = home.revised; inside = home.inside; memory = home.memory }
+  home_kept n f b (Intervention_victim_first p) g lp home hp = record { revised = home.revised; inside = home.inside; memory = home.memory }
+  home_kept n f b (Intervention_shared_dirty p r l) g lp home hp = grind (arith, nat_tests)
+  home_kept n f b (Intervention_shared_clean p r l) g lp home hp = grind (arith, nat_tests)
+  home_kept n f b (Intervention_shared_none p r) g lp home hp = grind (arith, nat_tests)
+  home_kept n f b (Intervention_exclusive_dirty p r l) g lp home hp = grind (arith, nat_tests)
+  home_kept n f b (Intervention_exclusive_clean p r) g lp home hp = grind (arith, nat_tests)
+  home_kept n f b (Intervention_poison_dirty p r l) g lp home hp = grind (arith, nat_tests)
+  home_kept n f b (Intervention_poison_clean p r) g lp home hp = grind (arith, nat_tests)
+  home_kept n f b (Write_back_ack p) g lp home hp = record { revised = home.revised; inside = home.inside; memory = home.memory }
+  home_kept n f b (Write_back_busy_ack_seen p) g lp home hp = record { revised = home.revised; inside = home.inside; memory = home.memory }
+  home_kept n f b (Write_back_busy_ack_first p) g lp home hp = record { revised = home.revised; inside = home.inside; memory = home.memory }
+  home_kept n f b (Send_poison_read p) g lp home hp = record { revised = home.revised; inside = home.inside; memory = home.memory }
