@@ -1,6 +1,6 @@
 -- Each access answers the flat memory of pages, and only stores change it.
 use Rattle.std.proofs.Common.{◌≡◌, ℕ, ◌<◌, Bool, true, false, cond, nat_eq, refl, subst}
-use Rattle.og_block.specs.Run.{Answers as BlockAnswers}
+use Rattle.og_block.specs.Access.{Answers as BlockAnswers}
 use Rattle.og_block.proofs.Run.{answers as block_answers}
 use Rattle.og_pages.specs.Rows.{Fill_store, Poison_refuse, Row as PageRow, apply as page_apply, Load_hit, Store_hit, Fill_load, Request_end}
 use Rattle.og_pages.specs.State.{State as Pages}

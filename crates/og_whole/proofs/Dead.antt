@@ -4,14 +4,15 @@ use Rattle.std.proofs.lemmas.Bool.{cases_Bool}
 use Rattle.std.proofs.lemmas.Bool.Decides.{nat_tests}
 use Rattle.og_block.specs.State.{Free, Idle, Ask, Response, Back, Copy, Want, NoInvalidation, Block}
 use Rattle.og_block.specs.Rows.{guard, Poison_collected}
-use Rattle.og_block.specs.Invariant.{Invariant, is_holder, owns, trusts, Asks, trusts_at, pending, Counted, Local, Home}
+use Rattle.og_block.specs.Invariant.{Invariant, Asks, Counted, Local, Home}
+use Rattle.og_block.specs.Views.{is_holder, owns, trusts, trusts_at, pending}
 use Rattle.og_block.proofs.Alone.{no_other_trusts, no_other_owns, quiet}
 use Rattle.og_pages.specs.State.{Dead}
 use Rattle.og_whole.specs.Actors.{OnlyPoisons, NeverPoisons, GrantedBy}
 use Rattle.og_whole.specs.Claims.{Clear}
 use Rattle.og_whole.specs.Kind.{phase_of, has_copy}
 
-no_copy : {L : Type 0} → (c : Copy L) (w : Want L) (a : Ask L) (r : Response L) (k : Back L) → trusts c w a r ≡ false → owns c w a r k ≡ false → has_copy c ≡ false
+no_copy : {L : Type 0} → (c : Copy L) (w : Want) (a : Ask L) (r : Response L) (k : Back L) → trusts c w a r ≡ false → owns c w a r k ≡ false → has_copy c ≡ false
 no_copy c w a r k t o = grind arith
 
 -- where the mover has the block and waits for nothing, no node has a copy

@@ -3,6 +3,7 @@ pub mod KeptMover
 pub mod KeptNodes
 pub mod KeptGrants
 pub mod KeptAnswers
+pub mod KeptSharing
 pub mod SeenPhase
 pub mod SeenRequest
 pub mod SeenVictim
@@ -15,7 +16,6 @@ pub mod PageRows
 pub mod Kept
 pub mod Accesses
 pub mod Runs
-pub mod HeldLine
 pub mod Safe
 pub mod HomeEntries
 pub mod Served

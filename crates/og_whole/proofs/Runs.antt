@@ -1,8 +1,9 @@
 -- The invariant of the whole holds at the start and after every run.
 use Rattle.std.proofs.Common.{◌≡◌, ℕ, ◌<◌, false, arith, refl, subst, List, [], ◌∷◌}
 use Rattle.std.proofs.lemmas.Bool.Decides.{nat_tests}
-use Rattle.og_block.specs.State.{start as block_start, NoInvalidation}
-use Rattle.og_block.specs.Invariant.{is_for, pending, Local}
+use Rattle.og_block.specs.State.{start as block_start, NoInvalidation, Sharing}
+use Rattle.og_block.specs.Invariant.{Local}
+use Rattle.og_block.specs.Views.{is_for, pending}
 use Rattle.og_pages.specs.Run.{Laid, Laid_by, start_line, start_phase}
 use Rattle.og_pages.proofs.Runs.{starts as pages_start_invariant}
 use Rattle.og_pages.specs.State.{Free as FreeRole, Role, Mapped}
@@ -10,6 +11,7 @@ use Rattle.og_slots.proofs.Count.{count_none}
 use Rattle.og_whole.specs.Events.{apply, Runs, start, FlatRun, Reached, World, Event, start_block, memory_after, memory_of}
 use Rattle.og_whole.specs.Link.{Invariant, Linked}
 use Rattle.og_whole.proofs.Kept.{kept}
+use Rattle.og_whole.specs.Actors.{IsApart}
 use Rattle.og_whole.specs.Kind.{fresh}
 use Rattle.og_whole.proofs.Accesses.{memory_follows, answered}
 
@@ -18,35 +20,35 @@ StartRole FreeRole = Unit {0}
 StartRole (Mapped page) = Unit {0}
 StartRole u = ⊥
 
-line_each : {L : Type 0} → (actors : ℕ) (l : L) (q : ℕ) → q < actors → Local actors l (block_start l) q
-line_each actors l q lt = let none : pending actors (block_start l) q ≡ 0 = count_none actors (λ k. is_for q NoInvalidation) (λ k below. refl) in grind (arith, nat_tests)
+line_each : {L : Type 0} → (actors : ℕ) (sharing : Sharing) (l : L) (q : ℕ) → q < actors → Local actors l (block_start sharing l) q
+line_each actors sharing l q lt = let none : pending actors (block_start sharing l) q ≡ 0 = count_none actors (λ k. is_for q NoInvalidation) (λ k below. refl) in grind (arith, nat_tests)
 
-fresh_each : {L : Type 0} → (actors mover : ℕ) (l : L) (q : ℕ) → q < actors → Local actors l (fresh mover l) q
-fresh_each actors mover l q lt = let none : pending actors (fresh mover l) q ≡ 0 = count_none actors (λ k. is_for q NoInvalidation) (λ k below. refl) in grind (arith, nat_tests)
+fresh_each : {L : Type 0} → (actors mover : ℕ) (sharing : Sharing) (l : L) (q : ℕ) → q < actors → Local actors l (fresh sharing mover l) q
+fresh_each actors mover sharing l q lt = let none : pending actors (fresh sharing mover l) q ≡ 0 = count_none actors (λ k. is_for q NoInvalidation) (λ k below. refl) in grind (arith, nat_tests)
 
-start_linked : {L : Type 0} → (actors mover : ℕ) (blank : L) (memory : ℕ → ℕ → L) (u : Role) (k : ℕ) → mover < actors → StartRole u → Linked L actors mover (start_line blank memory u k) (start_phase u) (λ q. false) (λ q. false) (λ q. false) (start_block mover blank memory u k)
-start_linked actors mover blank memory (Mapped page) k lm st = record {
-  invariant = record { each = line_each actors (memory page k); home = grind arith };
-  parts = record { only_poisons = grind arith; never_poison = λ q lq. grind arith; granted = tt; answered = grind arith };
+start_linked : {L : Type 0} → (actors mover : ℕ) (sharing : Sharing) (blank : L) (memory : ℕ → ℕ → L) (u : Role) (k : ℕ) → mover < actors → IsApart mover sharing → StartRole u → Linked L actors mover (start_line blank memory u k) (start_phase u) (λ q. false) (λ q. false) (λ q. false) (start_block sharing mover blank memory u k)
+start_linked actors mover sharing blank memory (Mapped page) k lm ap st = record {
+  invariant = record { each = line_each actors sharing (memory page k); home = grind arith };
+  parts = record { only_poisons = grind arith; never_poison = λ q lq. grind arith; granted = tt; answered = grind arith; apart = ap };
   phase_is = refl;
   want_is = λ q lq ne. refl;
   slot_is = λ q lq ne. refl;
   copy_is = λ q lq e. grind arith;
 }
-start_linked actors mover blank memory FreeRole k lm st = record {
-  invariant = record { each = fresh_each actors mover blank; home = grind arith };
-  parts = record { only_poisons = grind arith; never_poison = λ q lq. grind arith; granted = refl; answered = λ e h. grind arith };
+start_linked actors mover sharing blank memory FreeRole k lm ap st = record {
+  invariant = record { each = fresh_each actors mover sharing blank; home = grind arith };
+  parts = record { only_poisons = grind arith; never_poison = λ q lq. grind arith; granted = refl; answered = λ e h. grind arith; apart = ap };
   phase_is = refl;
   want_is = λ q lq ne. refl;
   slot_is = λ q lq ne. refl;
   copy_is = λ q lq e. grind arith;
 }
-start_linked actors mover blank memory u k lm st = absurd st
+start_linked actors mover sharing blank memory u k lm ap st = absurd st
 
-pub starts : {L : Type 0} → (actors mover pages blocks : ℕ) (blank : L) (page_table : ℕ → ℕ) (role : ℕ → Role) (memory : ℕ → ℕ → L) → mover < actors → Laid pages page_table role → Invariant L actors mover pages blocks (start mover blank page_table role memory)
-starts actors mover pages blocks blank page_table role memory lm laid = record {
+pub starts : {L : Type 0} → (actors mover pages blocks : ℕ) (sharing : Sharing) (blank : L) (page_table : ℕ → ℕ) (role : ℕ → Role) (memory : ℕ → ℕ → L) → mover < actors → IsApart mover sharing → Laid pages page_table role → Invariant L actors mover pages blocks (start sharing mover blank page_table role memory)
+starts actors mover pages blocks sharing blank page_table role memory lm ap laid = record {
   of_pages = pages_start_invariant pages blocks blank page_table role memory laid;
-  link = λ f k lt. start_linked actors mover blank memory (role f) k lm (used f (role f) (laid.frames f));
+  link = λ f k lt. start_linked actors mover sharing blank memory (role f) k lm ap (used f (role f) (laid.frames f));
 }
   where
     used : (f : ℕ) (u : Role) → Laid_by pages page_table f u → StartRole u
@@ -59,7 +61,7 @@ kept_run {L} actors mover pages blocks [] w z lm inv run = subst (λ (x : World 
 kept_run actors mover pages blocks (e ∷ es) w z lm inv run = kept_run actors mover pages blocks es (apply actors mover e w) z lm (kept actors mover pages blocks w e lm run.0 inv) run.1
 
 pub reached : {L : Type 0} → (actors mover pages blocks : ℕ) (w : World L) → Reached L actors mover pages blocks w → Invariant L actors mover pages blocks w
-reached actors mover pages blocks w r = kept_run actors mover pages blocks r.events (start mover r.blank r.page_table r.role r.memory) w r.inside (starts actors mover pages blocks r.blank r.page_table r.role r.memory r.inside r.laid) r.run
+reached actors mover pages blocks w r = kept_run actors mover pages blocks r.events (start r.sharing mover r.blank r.page_table r.role r.memory) w r.inside (starts actors mover pages blocks r.sharing r.blank r.page_table r.role r.memory r.inside r.apart r.laid) r.run
 
 -- the accesses are a run of the flat memory
 pub flat_run : {L : Type 0} → (actors mover pages blocks : ℕ) (es : List (Event L)) (w z : World L) → mover < actors → Invariant L actors mover pages blocks w → Runs actors mover pages blocks w es z → FlatRun w.pages.memory es × (z.pages.memory ≡ memory_of es w.pages.memory)

@@ -3,6 +3,7 @@ use Rattle.std.proofs.Common.{◌≡◌, ℕ, ◌<◌, Bool, true, false, not, n
 use Rattle.std.proofs.lemmas.Bool.{cases_eq as eq_or}
 use Rattle.std.proofs.lemmas.Bool.Decides.{nat_tests}
 use Rattle.og_block.specs.State.{Idle, Free, Victim, Want}
+use Rattle.og_block.proofs.Held.{held_line}
 use Rattle.og_block.specs.Invariant.{Invariant as BlockInvariant}
 use Rattle.og_block.proofs.Run.{one_writer}
 use Rattle.og_pages.specs.State.{Request, NoRequest, VictimSlot as PVictim, Free as FreeRole, Outstanding, VictimOf, Dead}
@@ -14,7 +15,6 @@ use Rattle.og_whole.specs.Claims.{LinesHeld, CopiesPlaced, WriterAlone, Clear, F
 use Rattle.og_whole.specs.Events.{World}
 use Rattle.og_whole.specs.Kind.{phase_of, is_idle, is_taken}
 use Rattle.og_whole.proofs.Dead.{bare, clear, clear_mover}
-use Rattle.og_whole.proofs.HeldLine.{held_line}
 
 asks_none : (r : Request) (f k : ℕ) → ((y : ℕ) → r ≢ Outstanding y f k) → asks_for r f k ≡ false
 asks_none NoRequest f k h = refl
@@ -25,7 +25,7 @@ asks_none (Outstanding y g j) f k h = by (nat_eq g f) (nat_eq j k) refl refl
     by true false a c = grind arith
     by false u a c = grind arith
 
-idle : {L : Type 0} → (v : Want L) (t : Bool) → is_idle v ≡ not t → t ≡ false → v ≡ Idle
+idle : (v : Want) (t : Bool) → is_idle v ≡ not t → t ≡ false → v ≡ Idle
 idle v t e h = grind arith
 
 slots : (v : Victim) (x : PVictim) (f k : ℕ) → is_taken v ≡ stands_for x f k → x ≢ VictimOf f k → v ≡ Free

@@ -3,8 +3,9 @@ use Rattle.std.proofs.Common.{◌≡◌, ℕ, ◌<◌, Bool, true, false, not, a
 use Rattle.std.proofs.lemmas.Bool.{cases_eq as eq_or}
 use Rattle.std.proofs.lemmas.Bool.Decides.{nat_tests}
 use Rattle.og_block.specs.State.{Idle, Free, Entry, Revision, Poisoning, NoAsk, PoisonRead, NoResponse, NoBack, WriteBack, Exclusive, BusyPoison, PoisonBy, NoRevision, Block}
-use Rattle.og_block.specs.Invariant.{Invariant as BlockInvariant, is_asked, is_for, Backs, Intervened, pending, Local, Home}
-use Rattle.og_block.specs.Rows.{Row as BlockRow, guard as block_guard, Send_poison_read, Copy_in, has_intervention}
+use Rattle.og_block.specs.Invariant.{Invariant as BlockInvariant, Backs, Intervened, Local, Home}
+use Rattle.og_block.specs.Rows.{Row as BlockRow, guard as block_guard, Copy_in, Send_poison_read, has_intervention}
+use Rattle.og_block.specs.Views.{is_asked, is_for, pending}
 use Rattle.og_pages.specs.State.{Request, NoRequest, Ask, VictimSlot, State as Pages, Job, Collect, Wait, NoCommand, CopyIn, Outstanding, Collecting, Dead}
 use Rattle.og_pages.proofs.Runs.{named_block}
 use Rattle.og_pages.specs.Invariant.{Entries, Invariant as PagesInvariant, belongs_to, place, Requests}

@@ -1,6 +1,6 @@
 -- Who plays which part in a block: the mover is one more actor, which only poisons and copies; a node never does.
 use Rattle.std.specs.Prelude.{◌≡◌, ℕ, ◌<◌, Bool, true, false, ◌≢◌}
-use Rattle.og_block.specs.State.{NoCopy, Want, Idle, Poisoning, Ask, PoisonReply, Free, NoIntervention, NoInvalidation, Entry, Unowned, SharedBy, Exclusive, BusyShared, BusyExclusive, BusyPoison, PoisonBy, Block}
+use Rattle.og_block.specs.State.{NoCopy, Want, Idle, Poisoning, Ask, PoisonReply, Free, NoIntervention, NoInvalidation, Entry, Unowned, SharedBy, Exclusive, BusyShared, BusyExclusive, BusyPoison, PoisonBy, Sharing, is_same, Block}
 use Rattle.og_block.specs.Rows.{Row, Send_read, Send_read_exclusive, Send_upgrade, Send_poison_read, Copy_in}
 use Rattle.og_pages.specs.Rows.{is_dead}
 use Rattle.og_whole.specs.Kind.{Kind, Loads, Stores, Evicts, Settles, Fills, Fills_store, Collects, phase_of, has_copy, is_taken}
@@ -9,7 +9,7 @@ abbrev pub is_poison : Entry → Bool
 is_poison (PoisonBy p) = true
 is_poison entry = false
 
-abbrev pub is_poisoning : {L : Type 0} → Want L → Bool
+abbrev pub is_poisoning : Want → Bool
 is_poisoning Poisoning = true
 is_poisoning want = false
 
@@ -17,7 +17,7 @@ abbrev pub is_poison_reply : {L : Type 0} → Ask L → Bool
 is_poison_reply (PoisonReply line due) = true
 is_poison_reply ask = false
 
-abbrev pub is_mover_want : {L : Type 0} → Want L → Bool
+abbrev pub is_mover_want : Want → Bool
 is_mover_want Idle = true
 is_mover_want Poisoning = true
 is_mover_want want = false
@@ -44,19 +44,24 @@ GrantedBy mover (PoisonBy requester) = requester ≡ mover
 abbrev pub PoisonAnswered : {L : Type 0} → (mover : ℕ) → Block L → Type 0
 PoisonAnswered mover b = is_poison b.entry ≡ true → b.want mover ≡ Poisoning → is_poison_reply (b.ask mover) ≡ true
 
+-- the mover is in no node's group
+abbrev pub IsApart : (mover : ℕ) → Sharing → Type 0
+IsApart mover sharing = (q : ℕ) → q ≢ mover → is_same sharing mover q ≡ false
+
 pub record Actors (L : Type 0) (actors mover : ℕ) (b : Block L) : Type 0 where
   pub only_poisons : OnlyPoisons mover b
   pub never_poison : (q : ℕ) → q < actors → NeverPoisons mover b q
   pub granted : GrantedBy mover b.entry
   pub answered : PoisonAnswered mover b
+  pub apart : IsApart mover b.sharing
 
 -- ---- between the layers
 
 -- what the page layer sees to when a row is taken: a node sends requests, the mover poisons what isn't poisoned, and copies
 abbrev pub Allowed : {L : Type 0} → (mover : ℕ) → Row L → Block L → Type 0
 Allowed mover (Send_read p) b = p ≢ mover
-Allowed mover (Send_read_exclusive p v) b = p ≢ mover
-Allowed mover (Send_upgrade p v l) b = p ≢ mover
+Allowed mover (Send_read_exclusive p) b = p ≢ mover
+Allowed mover (Send_upgrade p l) b = p ≢ mover
 Allowed mover (Send_poison_read p) b = (p ≡ mover) × (is_poison b.entry ≡ false)
 Allowed mover (Copy_in p v) b = p ≡ mover
 Allowed mover r b = Unit {0}

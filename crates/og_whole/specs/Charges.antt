@@ -3,7 +3,7 @@
 use Rattle.std.specs.Prelude.{◌≡◌, ℕ, ◌+◌, ◌*◌, ◌<◌, ◌≤◌, true, cond, ◌≢◌, List, length}
 use Rattle.og_block.specs.State.{NoAsk, NoResponse, NoBack, NoRevision}
 use Rattle.og_block.specs.Rows.{has_intervention}
-use Rattle.og_block.specs.Invariant.{is_for}
+use Rattle.og_block.specs.Views.{is_for}
 use Rattle.og_pages.specs.State.{NoCommand, NoWalk, NoDrop, NoNotice}
 use Rattle.og_slots.specs.Flight.{Fits}
 use Rattle.og_whole.specs.Kind.{is_taken}

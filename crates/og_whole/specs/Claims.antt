@@ -1,22 +1,23 @@
 -- What is claimed of each world that events lead to.
 use Rattle.std.specs.Prelude.{◌≡◌, ℕ, ◌<◌, Bool, true, false, ◌≢◌, List}
-use Rattle.og_block.specs.State.{Block, NoCopy, NoAsk, PoisonRead, NoResponse, NoBack, WriteBack, Free, NoIntervention, NoInvalidation, NoRevision, Exclusive, BusyPoison, PoisonBy}
+use Rattle.og_block.specs.State.{Sharing, Block, NoCopy, NoAsk, PoisonRead, NoResponse, NoBack, WriteBack, Free, NoIntervention, NoInvalidation, NoRevision, Exclusive, BusyPoison, PoisonBy}
 use Rattle.og_block.specs.Rows.{Row as BlockRow, guard as block_guard, Send_poison_read, Copy_in}
 use Rattle.og_block.specs.Run.{OneWriter}
+use Rattle.og_block.specs.Held.{Held}
 use Rattle.og_pages.specs.State.{State as Pages, Ask, Wait, CopyIn, Role, Free as FreeRole, Outstanding}
 use Rattle.og_pages.specs.Rows.{is_dead}
 use Rattle.og_pages.specs.Run.{Laid}
 use Rattle.og_pages.specs.Invariant.{place}
 use Rattle.og_whole.specs.Kind.{Kind, Stores, Fills_store, kind, has_copy, is_idle}
+use Rattle.og_whole.specs.Actors.{IsApart}
 use Rattle.og_whole.specs.Events.{World, Event, On, guard, apply, Runs, start, memory_of, FlatRun, Reached}
 use Rattle.og_whole.specs.Link.{Invariant}
-use Rattle.og_whole.specs.Held.{Held}
 
 -- ---- one flat memory of pages
 
 -- the line of each page's block, found in the block where it lives, is the flat memory's
 abbrev pub LinesHeld : (L : Type 0) → (actors mover pages blocks : ℕ) → World L → Type 0
-LinesHeld L actors mover pages blocks w = (page number : ℕ) → page < pages → number < blocks → Held L actors (w.pages.memory page number) (w.block (place w.pages.job (w.pages.page_table page) page number) number)
+LinesHeld L actors mover pages blocks w = (page number : ℕ) → page < pages → number < blocks → Held actors (w.pages.memory page number) (w.block (place w.pages.job (w.pages.page_table page) page number) number)
 
 abbrev pub is_store : {L : Type 0} → Kind L → Bool
 is_store (Stores p line) = true
@@ -81,15 +82,15 @@ InEachPages L P = (actors mover pages blocks : ℕ) (w : World L) → Reached L 
 
 -- from a start on, the accesses of any events are a run of one flat memory
 abbrev pub AccessesFlat : (L : Type 0) → Type 0
-AccessesFlat L = (actors mover pages blocks : ℕ) (blank : L) (page_table : ℕ → ℕ) (role : ℕ → Role) (memory : ℕ → ℕ → L) (events : List (Event L)) (end : World L) → mover < actors → Laid pages page_table role → Runs actors mover pages blocks (start mover blank page_table role memory) events end → FlatRun memory events
+AccessesFlat L = (actors mover pages blocks : ℕ) (sharing : Sharing) (blank : L) (page_table : ℕ → ℕ) (role : ℕ → Role) (memory : ℕ → ℕ → L) (events : List (Event L)) (end : World L) → mover < actors → IsApart mover sharing → Laid pages page_table role → Runs actors mover pages blocks (start sharing mover blank page_table role memory) events end → FlatRun memory events
 
 -- and the flat memory at the end is what the stores in them have made of it
 abbrev pub MemoryFollows : (L : Type 0) → Type 0
-MemoryFollows L = (actors mover pages blocks : ℕ) (blank : L) (page_table : ℕ → ℕ) (role : ℕ → Role) (memory : ℕ → ℕ → L) (events : List (Event L)) (end : World L) → mover < actors → Laid pages page_table role → Runs actors mover pages blocks (start mover blank page_table role memory) events end → end.pages.memory ≡ memory_of events memory
+MemoryFollows L = (actors mover pages blocks : ℕ) (sharing : Sharing) (blank : L) (page_table : ℕ → ℕ) (role : ℕ → Role) (memory : ℕ → ℕ → L) (events : List (Event L)) (end : World L) → mover < actors → IsApart mover sharing → Laid pages page_table role → Runs actors mover pages blocks (start sharing mover blank page_table role memory) events end → end.pages.memory ≡ memory_of events memory
 
 -- the invariant holds at the start, and each event that may happen keeps it
 abbrev pub Starts : (L : Type 0) → Type 0
-Starts L = (actors mover pages blocks : ℕ) (blank : L) (page_table : ℕ → ℕ) (role : ℕ → Role) (memory : ℕ → ℕ → L) → mover < actors → Laid pages page_table role → Invariant L actors mover pages blocks (start mover blank page_table role memory)
+Starts L = (actors mover pages blocks : ℕ) (sharing : Sharing) (blank : L) (page_table : ℕ → ℕ) (role : ℕ → Role) (memory : ℕ → ℕ → L) → mover < actors → IsApart mover sharing → Laid pages page_table role → Invariant L actors mover pages blocks (start sharing mover blank page_table role memory)
 
 abbrev pub IsKept : (L : Type 0) → Type 0
 IsKept L = (actors mover pages blocks : ℕ) (w : World L) (event : Event L) → mover < actors → guard actors mover pages blocks event w → Invariant L actors mover pages blocks w → Invariant L actors mover pages blocks (apply actors mover event w)

@@ -1,13 +1,14 @@
 -- The world: the page layer's state and a block for each frame and number. An event is a row of the page layer, or a row of
 -- one block together with the page layer's row that goes with it. One event of the machine is a short list of these.
 use Rattle.std.specs.Prelude.{◌≡◌, ℕ, ◌<◌, Bool, true, false, cond, nat_eq, ◌≢◌, List, [], ◌∷◌}
-use Rattle.og_block.specs.State.{Block, start as block_start}
+use Rattle.og_block.specs.State.{Sharing, Block, start as block_start}
 use Rattle.og_block.specs.Rows.{Row as BlockRow, guard as block_guard, apply as block_apply, actor_of}
-use Rattle.og_block.specs.Run.{Answers as BlockAnswers}
+use Rattle.og_block.specs.Access.{Answers as BlockAnswers}
 use Rattle.og_pages.specs.State.{State as Pages, Ask, Collect, Wait, CopyIn, To, NoWalk, NoRequest, Outstanding, NoVictim, put_pair, Role, Mapped}
 use Rattle.og_pages.specs.Rows.{Row as PageRow, guard as page_guard, apply as page_apply, Load_hit, Store_hit, Request_send, Fill_load, Fill_store, Request_end, Copy_lose, Victim_put, Victim_free, Poison_send, Poison_refuse, Poison_collect, Copy_serve}
 use Rattle.og_pages.specs.Run.{Laid, start as pages_start}
 use Rattle.og_whole.specs.Kind.{Kind, Loads, Stores, Sends, Fills, Fills_store, Ends, Evicts, Settles, Poisons, Collects, Copies, Inner, kind, fresh}
+use Rattle.og_whole.specs.Actors.{IsApart}
 
 pub record World (L : Type 0) : Type 0 where
   pub pages : Pages L
@@ -91,23 +92,25 @@ Runs actors mover pages blocks w [] end = w ≡ end
 Runs actors mover pages blocks w (event ∷ events) end = guard actors mover pages blocks event w × Runs actors mover pages blocks (apply actors mover event w) events end
 
 -- the blocks of pages' frames have the pages' lines, and are Unowned; those of free frames are the mover's
-abbrev pub start_block : {L : Type 0} → (mover : ℕ) → (blank : L) → (memory : ℕ → ℕ → L) → Role → (number : ℕ) → Block L
-start_block mover blank memory (Mapped page) number = block_start (memory page number)
-start_block mover blank memory role number = fresh mover blank
+abbrev pub start_block : {L : Type 0} → Sharing → (mover : ℕ) → (blank : L) → (memory : ℕ → ℕ → L) → Role → (number : ℕ) → Block L
+start_block sharing mover blank memory (Mapped page) number = block_start sharing (memory page number)
+start_block sharing mover blank memory role number = fresh sharing mover blank
 
-abbrev pub start : {L : Type 0} → (mover : ℕ) → (blank : L) → (page_table : ℕ → ℕ) → (role : ℕ → Role) → (memory : ℕ → ℕ → L) → World L
-start mover blank page_table role memory = record { pages = pages_start blank page_table role memory; block = λ frame number. start_block mover blank memory (role frame) number }
+abbrev pub start : {L : Type 0} → Sharing → (mover : ℕ) → (blank : L) → (page_table : ℕ → ℕ) → (role : ℕ → Role) → (memory : ℕ → ℕ → L) → World L
+start sharing mover blank page_table role memory = record { pages = pages_start blank page_table role memory; block = λ frame number. start_block sharing mover blank memory (role frame) number }
 
 -- events lead to the world from a start in which each page has a frame of its own
 pub record Reached (L : Type 0) (actors mover pages blocks : ℕ) (w : World L) : Type 0 where
   pub inside : mover < actors
+  pub sharing : Sharing
+  pub apart : IsApart mover sharing
   pub blank : L
   pub page_table : ℕ → ℕ
   pub role : ℕ → Role
   pub memory : ℕ → ℕ → L
   pub events : List (Event L)
   pub laid : Laid pages page_table role
-  pub run : Runs actors mover pages blocks (start mover blank page_table role memory) events w
+  pub run : Runs actors mover pages blocks (start sharing mover blank page_table role memory) events w
 
 -- ---- the flat memory of pages
 

@@ -3,7 +3,7 @@
 -- the old frame is dropped, cleaned and freed, the node walks and loads what it stored, and the page begins to move back
 -- into frame 0. Lines are numbers here.
 use Rattle.std.specs.Prelude.{◌≡◌, ℕ, false, cond, nat_eq, List, [], ◌∷◌}
-use Rattle.og_block.specs.State.{Clean}
+use Rattle.og_block.specs.State.{Clean, Single}
 use Rattle.og_block.specs.Rows.{Read_exclusive_unowned, Fill_clean, Fill_exclusive, Send_poison_read, Poison_read_owned, Intervention_poison_dirty, Poisoned, Poison_collected, Read_poison, Read_unowned, Copy_in, Revision_poison_back, Send_read, Send_read_exclusive}
 use Rattle.og_pages.specs.State.{Role, Free, Mapped, Ask}
 use Rattle.og_pages.specs.Rows.{Clean_send, Clean_serve, Copy_last, Copy_send, Drop_answer, Drop_take, Tlb_forget, Frame_free, Gather_end, Move_begin, Notice_send, Publish_page, Reclaim_begin, Drop_send_all, Walk_fill, Walk_send, Walk_answer}
@@ -15,11 +15,11 @@ first_role frame = cond (nat_eq frame 0) (Mapped 0) Free
 
 -- the node is actor 0, and the mover actor 1
 abbrev pub first : World ℕ
-first = start 1 0 (λ page. 0) first_role (λ page number. 0)
+first = start Single 1 0 (λ page. 0) first_role (λ page number. 0)
 
 -- the node walks, and stores 7
 abbrev pub stores : List (Event ℕ)
-stores = Page (Walk_send 0 0) ∷ Page (Walk_answer 0 0 0) ∷ Page (Walk_fill 0 0 0) ∷ On 0 0 0 0 (Send_read_exclusive 0 7) ∷ On 0 0 0 0 (Read_exclusive_unowned 0) ∷ Page (Notice_send 0 0 0 0) ∷ On 0 0 0 0 (Fill_exclusive 0 7 0 0) ∷ []
+stores = Page (Walk_send 0 0) ∷ Page (Walk_answer 0 0 0) ∷ Page (Walk_fill 0 0 0) ∷ On 0 0 0 0 (Send_read_exclusive 0) ∷ On 0 0 0 0 (Read_exclusive_unowned 0) ∷ Page (Notice_send 0 0 0 0) ∷ On 0 0 0 0 (Fill_exclusive 0 7 0 0) ∷ []
 
 -- the mover moves the page into frame 1
 abbrev pub moves : List (Event ℕ)

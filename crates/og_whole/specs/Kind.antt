@@ -1,8 +1,8 @@
 -- What the page layer sees of a block and of the block's rows. Of a block it sees the phase, who has something outstanding
 -- for it, whose victim slot holds it and who has a copy; a row it sees by its kind.
 use Rattle.std.specs.Prelude.{ℕ, Bool, true, false, cond, nat_eq}
-use Rattle.og_block.specs.State.{Copy, NoCopy, Want, Idle, Poisoning, Victim, Free, Entry, PoisonBy, Block, start}
-use Rattle.og_block.specs.Rows.{Row, Send_read, Send_read_exclusive, Send_upgrade, Load_shared, Load_clean, Load_dirty, Store, Evict, Fill_shared, Again_shared, Fill_clean, Fill_shared_answered, Fill_shared_speculative, Again_speculative, Fill_exclusive, Fill_exclusive_answered, Fill_upgrade, Again_refused, Again_upgrade_refused, Intervention_victim_busy, Write_back_ack, Write_back_busy_ack_seen, Send_poison_read, Poison_collected, Poisoned, Copy_in}
+use Rattle.og_block.specs.State.{Copy, NoCopy, Want, Idle, Poisoning, Victim, Free, Entry, PoisonBy, Sharing, Block, start}
+use Rattle.og_block.specs.Rows.{Row, Send_read, Send_read_exclusive, Send_upgrade, Load_shared, Load_clean, Load_dirty, Store, Evict, Fill_shared, Again_shared, Fill_clean, Fill_shared_answered, Fill_shared_speculative, Again_speculative, Fill_exclusive, Fill_exclusive_answered, Fill_exclusive_speculative, Fill_upgrade, Fill_upgrade_line, Again_refused, Again_upgrade_refused, Intervention_victim_busy, Write_back_ack, Write_back_busy_ack_seen, Send_poison_read, Poison_collected, Poisoned, Copy_in}
 use Rattle.og_pages.specs.State.{Live, Collecting, Dead, Phase}
 
 -- a load that hits; a store that hits; a request goes out; it ends with a copy and a load, or with a copy and a store; it
@@ -24,12 +24,12 @@ pub data Kind (L : Type 0) : Type 0 where
 
 abbrev pub kind : {L : Type 0} → Row L → Kind L
 kind (Send_read p) = Sends p
-kind (Send_read_exclusive p v) = Sends p
-kind (Send_upgrade p v l) = Sends p
+kind (Send_read_exclusive p) = Sends p
+kind (Send_upgrade p l) = Sends p
 kind (Load_shared p l) = Loads p
 kind (Load_clean p l) = Loads p
 kind (Load_dirty p l) = Loads p
-kind (Store p v) = Stores p v
+kind (Store p v l) = Stores p v
 kind (Evict p l) = Evicts p
 kind (Fill_shared p l) = Fills p
 kind (Again_shared p l) = Ends p
@@ -39,7 +39,9 @@ kind (Fill_shared_speculative p m) = Fills p
 kind (Again_speculative p m) = Ends p
 kind (Fill_exclusive p v l d) = Fills_store p v
 kind (Fill_exclusive_answered p v m l) = Fills_store p v
+kind (Fill_exclusive_speculative p v m) = Fills_store p v
 kind (Fill_upgrade p v l d) = Fills_store p v
+kind (Fill_upgrade_line p v l d) = Fills_store p v
 kind (Again_refused p) = Ends p
 kind (Again_upgrade_refused p) = Ends p
 kind (Intervention_victim_busy p) = Settles p
@@ -54,7 +56,7 @@ kind r = Inner
 -- ---- what is seen of a block
 
 -- while the mover poisons a block it is being collected; afterwards it stays the mover's, and dead, until a copy comes in
-abbrev pub phase_by : {L : Type 0} → Want L → Entry → Phase
+abbrev pub phase_by : Want → Entry → Phase
 phase_by Poisoning entry = Collecting
 phase_by Idle (PoisonBy p) = Dead
 phase_by want entry = Live
@@ -62,7 +64,7 @@ phase_by want entry = Live
 abbrev pub phase_of : {L : Type 0} → (mover : ℕ) → Block L → Phase
 phase_of mover b = phase_by (b.want mover) b.entry
 
-abbrev pub is_idle : {L : Type 0} → Want L → Bool
+abbrev pub is_idle : Want → Bool
 is_idle Idle = true
 is_idle want = false
 
@@ -75,8 +77,8 @@ has_copy NoCopy = false
 has_copy copy = true
 
 -- a block of a free frame: the mover's since its frame's last use
-abbrev pub fresh : {L : Type 0} → (mover : ℕ) → L → Block L
-fresh mover line = record (start line) { entry = PoisonBy mover }
+abbrev pub fresh : {L : Type 0} → Sharing → (mover : ℕ) → L → Block L
+fresh sharing mover line = record (start sharing line) { entry = PoisonBy mover }
 
 -- ---- how a kind changes what is seen
 

@@ -2,7 +2,6 @@ pub mod Kind
 pub mod Actors
 pub mod Events
 pub mod Link
-pub mod Held
 pub mod HomeEntry
 pub mod Charges
 pub mod Claims

@@ -12,7 +12,7 @@
 #![tactic(auto)]
 
 ghost use Rattle.og_pages.specs.Claims.{FreeUnnamed, TargetUnnamed, OnlyHolders, Served, MoverWaits};
-ghost use Rattle.og_whole.specs.HomeEntry.{EntriesMet};
+ghost use Rattle.og_whole.specs.HomeEntry.{EntriesMet, PageRowsKeepEntries, BlockRowsKeepBlank};
 ghost use Rattle.og_whole.specs.Charges.{KeysApart, AtMostKeys};
 ghost use Rattle.og_whole.specs.Claims.{InEachWorld, InEachPages, Starts, IsKept, AccessesFlat, MemoryFollows, LinesHeld, StoresLand, WriterAlone, CopiesPlaced, FreeClear, PoisonServed};
 ghost use Rattle.og_whole.specs.Example.{Happens};
@@ -55,6 +55,13 @@ pub fn messages_meet_rows<L>()
     ensures served { InEachPages L Served }
     ensures entries { InEachWorld L EntriesMet }
     ensures poison { InEachWorld L PoisonServed }
+{}
+
+/// The entry that a home has is the block's, but in a blank frame, whose blocks are Unowned at their home: no row of the page
+/// layer changes an entry but a cleaning, and no row of a block changes which frames are blank.
+pub fn home_entries_follow<L>()
+    ensures page_rows { PageRowsKeepEntries L }
+    ensures block_rows { BlockRowsKeepBlank L }
 {}
 
 /// A mover without an act waits for something that is there. That it comes is not claimed.

@@ -3,7 +3,7 @@ use Rattle.og_whole.proofs.Runs.{starts}
 use Rattle.og_whole.proofs.invariant_is_kept.Goals as goal
 
 pub returns-clause-starts : goal.returns-clause-starts
-returns-clause-starts g c = λ actors mover pages blocks blank page_table role memory inside laid. starts actors mover pages blocks blank page_table role memory inside laid
+returns-clause-starts g c = λ actors mover pages blocks sharing blank page_table role memory inside apart laid. starts actors mover pages blocks sharing blank page_table role memory inside apart laid
 
 pub returns-clause-kept : goal.returns-clause-kept
 returns-clause-kept g c = λ actors mover pages blocks w event inside may inv. kept actors mover pages blocks w event inside may inv

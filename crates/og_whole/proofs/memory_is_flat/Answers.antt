@@ -5,10 +5,10 @@ use Rattle.og_whole.proofs.Served.{stores_land}
 use Rattle.og_whole.proofs.memory_is_flat.Goals as goal
 
 pub returns-clause-accesses : goal.returns-clause-accesses
-returns-clause-accesses g c = λ actors mover pages blocks blank page_table role memory events end inside laid run. (flat_run actors mover pages blocks events (start mover blank page_table role memory) end inside (starts actors mover pages blocks blank page_table role memory inside laid) run).0
+returns-clause-accesses g c = λ actors mover pages blocks sharing blank page_table role memory events end inside apart laid run. (flat_run actors mover pages blocks events (start sharing mover blank page_table role memory) end inside (starts actors mover pages blocks sharing blank page_table role memory inside apart laid) run).0
 
 pub returns-clause-follows : goal.returns-clause-follows
-returns-clause-follows g c = λ actors mover pages blocks blank page_table role memory events end inside laid run. (flat_run actors mover pages blocks events (start mover blank page_table role memory) end inside (starts actors mover pages blocks blank page_table role memory inside laid) run).1
+returns-clause-follows g c = λ actors mover pages blocks sharing blank page_table role memory events end inside apart laid run. (flat_run actors mover pages blocks events (start sharing mover blank page_table role memory) end inside (starts actors mover pages blocks sharing blank page_table role memory inside apart laid) run).1
 
 pub returns-clause-held : goal.returns-clause-held
 returns-clause-held g c = λ actors mover pages blocks w r. lines_held actors mover pages blocks w r.inside (reached actors mover pages blocks w r)

@@ -1,0 +1,77 @@
+-- No row changes what a bit of the sharers stands for.
+use Rattle.std.proofs.Common.{◌≡◌, ℕ, refl}
+use Rattle.og_block.specs.State.{Block}
+use Rattle.og_block.specs.Rows.{Row, apply, Send_read, Send_read_exclusive, Send_upgrade, Load_shared, Load_clean, Load_dirty, Store, Forget, Evict, Read_unowned, Read_shared, Read_by_owner, Read_owned, Read_busy, Read_poison, Read_exclusive_unowned, Read_exclusive_shared, Read_exclusive_by_owner, Read_exclusive_owned, Read_exclusive_busy, Read_exclusive_poison, Upgrade_shared, Upgrade_grouped, Upgrade_refused, Upgrade_poison, Write_back_owner, Write_back_busy_shared, Write_back_busy_exclusive, Write_back_requester, Write_back_busy_poison, Revision_sharing_write_back, Revision_sharing_transfer, Revision_dirty_transfer, Revision_returned, Revision_poison_back, Revision_poison_clean, Poison_read_unowned, Poison_read_shared, Poison_read_owned, Poison_read_busy, Copy_in, Fill_shared, Again_shared, Fill_clean, Fill_shared_answered, Fill_shared_speculative, Again_speculative, Fill_exclusive, Fill_exclusive_answered, Fill_exclusive_speculative, Fill_upgrade, Fill_upgrade_line, Again_refused, Again_upgrade_refused, Poisoned, Poison_collected, Invalidated, Acknowledged, Intervention_victim_busy, Intervention_victim_first, Intervention_shared_dirty, Intervention_shared_clean, Intervention_shared_none, Intervention_exclusive_dirty, Intervention_exclusive_clean, Intervention_poison_dirty, Intervention_poison_clean, Write_back_ack, Write_back_busy_ack_seen, Write_back_busy_ack_first, Send_poison_read}
+
+pub sharing_kept : {L : Type 0} → (actors : ℕ) (b : Block L) (r : Row L) → (apply actors r b).sharing ≡ b.sharing
+sharing_kept actors b (Send_read p) = refl
+sharing_kept actors b (Send_read_exclusive p) = refl
+sharing_kept actors b (Send_upgrade p l) = refl
+sharing_kept actors b (Load_shared p l) = refl
+sharing_kept actors b (Load_clean p l) = refl
+sharing_kept actors b (Load_dirty p l) = refl
+sharing_kept actors b (Store p v l) = refl
+sharing_kept actors b (Forget p) = refl
+sharing_kept actors b (Evict p l) = refl
+sharing_kept actors b (Read_unowned p) = refl
+sharing_kept actors b (Read_shared p s) = refl
+sharing_kept actors b (Read_by_owner p) = refl
+sharing_kept actors b (Read_owned p o) = refl
+sharing_kept actors b (Read_busy p) = refl
+sharing_kept actors b (Read_poison p o) = refl
+sharing_kept actors b (Read_exclusive_unowned p) = refl
+sharing_kept actors b (Read_exclusive_shared p s) = refl
+sharing_kept actors b (Read_exclusive_by_owner p) = refl
+sharing_kept actors b (Read_exclusive_owned p o) = refl
+sharing_kept actors b (Read_exclusive_busy p) = refl
+sharing_kept actors b (Read_exclusive_poison p o) = refl
+sharing_kept actors b (Upgrade_shared p s) = refl
+sharing_kept actors b (Upgrade_grouped p s) = refl
+sharing_kept actors b (Upgrade_refused p) = refl
+sharing_kept actors b (Upgrade_poison p o) = refl
+sharing_kept actors b (Write_back_owner p l) = refl
+sharing_kept actors b (Write_back_busy_shared p r l) = refl
+sharing_kept actors b (Write_back_busy_exclusive p r l) = refl
+sharing_kept actors b (Write_back_requester p o l) = refl
+sharing_kept actors b (Write_back_busy_poison p r l) = refl
+sharing_kept actors b (Revision_sharing_write_back o r l) = refl
+sharing_kept actors b (Revision_sharing_transfer o r) = refl
+sharing_kept actors b (Revision_dirty_transfer o r) = refl
+sharing_kept actors b (Revision_returned o r) = refl
+sharing_kept actors b (Revision_poison_back o r l) = refl
+sharing_kept actors b (Revision_poison_clean o r) = refl
+sharing_kept actors b (Poison_read_unowned p) = refl
+sharing_kept actors b (Poison_read_shared p s) = refl
+sharing_kept actors b (Poison_read_owned p o) = refl
+sharing_kept actors b (Poison_read_busy p) = refl
+sharing_kept actors b (Copy_in p v) = refl
+sharing_kept actors b (Fill_shared p l) = refl
+sharing_kept actors b (Again_shared p l) = refl
+sharing_kept actors b (Fill_clean p l m) = refl
+sharing_kept actors b (Fill_shared_answered p l m) = refl
+sharing_kept actors b (Fill_shared_speculative p m) = refl
+sharing_kept actors b (Again_speculative p m) = refl
+sharing_kept actors b (Fill_exclusive p v l d) = refl
+sharing_kept actors b (Fill_exclusive_answered p v m l) = refl
+sharing_kept actors b (Fill_exclusive_speculative p v m) = refl
+sharing_kept actors b (Fill_upgrade p v l d) = refl
+sharing_kept actors b (Fill_upgrade_line p v l d) = refl
+sharing_kept actors b (Again_refused p) = refl
+sharing_kept actors b (Again_upgrade_refused p) = refl
+sharing_kept actors b (Poisoned p) = refl
+sharing_kept actors b (Poison_collected p l d) = refl
+sharing_kept actors b (Invalidated p r) = refl
+sharing_kept actors b (Acknowledged p r) = refl
+sharing_kept actors b (Intervention_victim_busy p) = refl
+sharing_kept actors b (Intervention_victim_first p) = refl
+sharing_kept actors b (Intervention_shared_dirty p r l) = refl
+sharing_kept actors b (Intervention_shared_clean p r l) = refl
+sharing_kept actors b (Intervention_shared_none p r) = refl
+sharing_kept actors b (Intervention_exclusive_dirty p r l) = refl
+sharing_kept actors b (Intervention_exclusive_clean p r) = refl
+sharing_kept actors b (Intervention_poison_dirty p r l) = refl
+sharing_kept actors b (Intervention_poison_clean p r) = refl
+sharing_kept actors b (Write_back_ack p) = refl
+sharing_kept actors b (Write_back_busy_ack_seen p) = refl
+sharing_kept actors b (Write_back_busy_ack_first p) = refl
+sharing_kept actors b (Send_poison_read p) = refl
