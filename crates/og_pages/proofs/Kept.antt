@@ -6,6 +6,7 @@ use Rattle.og_pages.proofs.KeptJobs.{jobs_kept}
 use Rattle.og_pages.proofs.KeptPhases.{phases_kept}
 use Rattle.og_pages.proofs.KeptEntries.{entries_kept}
 use Rattle.og_pages.proofs.KeptWalks.{walks_kept}
+use Rattle.og_pages.proofs.KeptWalkers.{walkers_kept}
 use Rattle.og_pages.proofs.KeptRequests.{requests_kept}
 use Rattle.og_pages.proofs.KeptVictims.{victims_kept}
 use Rattle.og_pages.proofs.KeptHolders.{holders_kept}
@@ -29,6 +30,7 @@ kept pages blocks s r g inv = record {
   phases = phases_kept pages blocks s r g inv;
   entries = entries_kept pages blocks s r g inv;
   walks = walks_kept pages blocks s r g inv;
+  walkers = walkers_kept pages blocks s r g inv;
   requests = requests_kept pages blocks s r g inv;
   victims = victims_kept pages blocks s r g inv;
   holders = holders_kept pages blocks s r g inv;

@@ -5,6 +5,7 @@ pub mod KeptJobs
 pub mod KeptPhases
 pub mod KeptEntries
 pub mod KeptWalks
+pub mod KeptWalkers
 pub mod KeptRequests
 pub mod KeptVictims
 pub mod KeptHolders

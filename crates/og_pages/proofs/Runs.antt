@@ -1,5 +1,5 @@
 -- The invariant holds at the start and after every run, and each access answers the flat memory.
-use Rattle.std.proofs.Common.{◌≡◌, ℕ, ◌<◌, true, false, arith, refl, subst, List, [], ◌∷◌}
+use Rattle.std.proofs.Common.{◌≡◌, ℕ, ◌<◌, true, false, arith, refl, sym, subst, List, [], ◌∷◌, ◌++◌}
 use Rattle.std.proofs.lemmas.Bool.Decides.{nat_tests}
 use Rattle.og_pages.proofs.Kept.{kept}
 use Rattle.og_pages.proofs.Place.{place_of_named}
@@ -16,6 +16,7 @@ starts pages blocks blank page_table role memory laid = record {
   phases = λ f k lt. let h : Laid_by pages page_table f (role f) = laid.frames f in grind (arith, nat_tests);
   entries = λ p y. tt;
   walks = λ p. tt;
+  walkers = λ p. tt;
   requests = λ p. tt;
   victims = λ p. tt;
   holders = λ f p. grind arith;
@@ -67,3 +68,18 @@ reached pages blocks s r = after_run pages blocks r.rows (start r.blank r.page_t
 pub all_answered : {L : Type 0} → (pages blocks : ℕ) (rows : List (Row L)) (s end : State L) → Invariant L pages blocks s → Runs pages blocks s rows end → AllAnswered s rows
 all_answered pages blocks [] s end inv run = tt
 all_answered pages blocks (r ∷ rows) s end inv run = (answers pages blocks s r run.0 inv, all_answered pages blocks rows (apply r s) end (kept pages blocks s r run.0 inv) run.1)
+
+runs_append : {L : Type 0} → (pages blocks : ℕ) (rows more : List (Row L)) (s t end : State L) → Runs pages blocks s rows t → Runs pages blocks t more end → Runs pages blocks s (rows ++ more) end
+runs_append {L} pages blocks [] more s t end run on = subst (λ (x : State L). Runs pages blocks x more end) (sym run) on
+runs_append pages blocks (r ∷ rows) more s t end run on = (run.0, runs_append pages blocks rows more (apply r s) t end run.1 on)
+
+pub goes_on : {L : Type 0} → (pages blocks : ℕ) (s end : State L) (rows : List (Row L)) → Reached L pages blocks s → Runs pages blocks s rows end → Reached L pages blocks end
+goes_on pages blocks s end rows r on = record {
+  blank = r.blank;
+  page_table = r.page_table;
+  role = r.role;
+  memory = r.memory;
+  rows = r.rows ++ rows;
+  laid = r.laid;
+  run = runs_append pages blocks r.rows rows (start r.blank r.page_table r.role r.memory) s end r.run on;
+}

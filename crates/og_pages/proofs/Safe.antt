@@ -3,10 +3,10 @@ use Rattle.std.proofs.Common.{◌≡◌, ℕ, ◌+◌, ◌<◌, true, false, ari
 use Rattle.std.proofs.lemmas.Bool.{cases_Bool, cases_eq}
 use Rattle.std.proofs.lemmas.Bool.Decides.{nat_tests}
 use Rattle.og_pages.proofs.Runs.{named_block}
-use Rattle.og_pages.specs.State.{State, Role, Job, Notice, Free, Mapped, Target, Collect, Wait, Gather, Cleaning, Tell, CopyIn, CopyDone, CleanFrame, FrameClean, NoNotice, Walking, NoDrop, Collecting}
-use Rattle.og_pages.specs.Rows.{guard, is_dead, is_moving, Walk_answer, Walk_refuse, Copy_next, Copy_last, Frame_free}
-use Rattle.og_pages.specs.Invariant.{Invariant, Entries, Requests, Walks, Victims, Drops, Drops_by, Holders, Gathering, Mappings, place, is_left, may_be_named, has_notice}
-use Rattle.og_pages.specs.Claims.{Unnamed, FreeUnnamed, TargetUnnamed, OnlyHolders, LinesHeld, CopiesPlaced, FramesApart, CopyMeets, CleaningMeets, Served, Awaited, MoverWaits}
+use Rattle.og_pages.specs.State.{State, Role, Job, Notice, Free, Mapped, Target, Collect, Wait, Gather, Cleaning, Tell, CopyIn, CopyDone, CleanFrame, FrameClean, NoNotice, Walking, NoDrop, Collecting, Request, Walk, VictimSlot, NoRequest, NoWalk, NoVictim, Outstanding, VictimOf, DropFrame}
+use Rattle.og_pages.specs.Rows.{guard, is_dead, is_moving, Walk_answer, Walk_refuse, Drop_answer, Copy_next, Copy_last, Frame_free}
+use Rattle.og_pages.specs.Invariant.{Invariant, Entries, Requests, Walks, Walkers, Victims, Drops, Drops_by, Holders, Gathering, Mappings, place, is_left, may_be_named, has_notice}
+use Rattle.og_pages.specs.Claims.{Unnamed, FreeUnnamed, TargetUnnamed, OnlyHolders, LinesHeld, CopiesPlaced, FramesApart, CopyMeets, CleaningMeets, IsOccupied, Served, Awaited, MoverWaits}
 
 -- where no frame is gathered no request to drop is out
 no_drop : {L : Type 0} → (s : State L) (node frame : ℕ) → Drops_by s node (s.drop node) → s.job ≡ Tell frame → s.drop node ≡ NoDrop
@@ -108,6 +108,15 @@ module _ {L : Type 0} (pages blocks : ℕ) (s : State L) (inv : Invariant L page
   walk_row : (node page : ℕ) → s.walk node ≡ Walking page → guard pages blocks (Walk_answer node page (s.page_table page)) s ⊎ guard pages blocks (Walk_refuse node page) s
   walk_row node page e = elim (cases_Bool (is_moving s.job page)) [ inl moving ↦ inr (e, moving) | inr still ↦ inl (e, still, refl) ]
 
+  drop_row : (node frame : ℕ) → s.drop node ≡ DropFrame frame → guard pages blocks (Drop_answer node frame) s ⊎ IsOccupied L s node
+  drop_row node frame e = by (s.request node) (s.walk node) (s.victim node) refl refl refl
+    where
+      by : (r : Request) (w : Walk) (v : VictimSlot) → s.request node ≡ r → s.walk node ≡ w → s.victim node ≡ v → guard pages blocks (Drop_answer node frame) s ⊎ IsOccupied L s node
+      by NoRequest NoWalk NoVictim a b c = inl (e, a, b, c)
+      by (Outstanding y f k) w v a b c = inr (inl (λ x. grind arith))
+      by NoRequest NoWalk (VictimOf f k) a b c = inr (inr (inr (λ x. grind arith)))
+      by NoRequest w v a b c = inr (inr (inl (λ x. grind arith)))
+
   pub waits : MoverWaits L pages blocks s
   waits = by_job s.job refl
     where
@@ -122,8 +131,9 @@ module _ {L : Type 0} (pages blocks : ℕ) (s : State L) (inv : Invariant L page
   served = record {
     walk = λ node page e. let t : Walks pages blocks s node = inv.walks node in let m : Mappings pages blocks s page = inv.mappings page in grind arith;
     walk_row = walk_row;
-    walk_answer = λ node page frame e. let t : Walks pages blocks s node = inv.walks node in (grind arith, e);
+    walk_answer = λ node page frame e. let t : Walks pages blocks s node = inv.walks node in let u : Walkers pages blocks s node = inv.walkers node in (grind arith, grind arith, grind arith, e);
     drop = λ node frame e. let t : Drops pages blocks s node = inv.drops node in grind arith;
+    drop_row = drop_row;
     dropped = λ node frame e. let t : Drops pages blocks s node = inv.drops node in grind arith;
     no_held_drop = λ frame node e. no_drop s node frame (inv.drops node) e;
     notice = noticed_page;

@@ -1,7 +1,7 @@
 -- What is claimed of each state that rows lead to.
 use Rattle.std.specs.Prelude.{◌≡◌, ℕ, ◌<◌, Bool, true, false, cond, nat_eq, ◌≢◌, ◌⊎◌, List}
-use Rattle.og_pages.specs.State.{State, Role, Job, Free, Mapped, Target, Idle, Ask, Collect, Hold, Wait, Publish, Tell, Gather, Clean, Cleaning, NoCommand, CopyIn, CopyDone, CleanFrame, FrameClean, To, Walking, Walked, NoDrop, DropFrame, Dropped, Outstanding, VictimOf, Collecting, Dead, NoNotice}
-use Rattle.og_pages.specs.Rows.{Row, guard, apply, Walk_answer, Walk_refuse, Walk_fill, Drop_take, Copy_serve, Copy_next, Copy_last, Clean_serve, Frame_free}
+use Rattle.og_pages.specs.State.{State, Role, Job, Free, Mapped, Target, Idle, Ask, Collect, Hold, Wait, Publish, Tell, Gather, Clean, Cleaning, NoCommand, CopyIn, CopyDone, CleanFrame, FrameClean, To, Walking, Walked, NoDrop, DropFrame, Dropped, Outstanding, VictimOf, Collecting, Dead, NoNotice, NoRequest, NoWalk, NoVictim, NoEntry}
+use Rattle.og_pages.specs.Rows.{Row, guard, apply, Walk_answer, Walk_refuse, Walk_fill, Drop_answer, Drop_take, Copy_serve, Copy_next, Copy_last, Clean_serve, Frame_free}
 use Rattle.og_pages.specs.Invariant.{Invariant, place, is_left}
 use Rattle.og_pages.specs.Run.{Laid, start, Runs, AllAnswered, Reached}
 
@@ -53,15 +53,21 @@ pub record CleaningMeets (L : Type 0) (pages blocks : ℕ) (s : State L) (frame 
   pub dead : (number : ℕ) → number < blocks → s.phase frame number ≡ Dead
   pub no_holder : (node : ℕ) → s.holder frame node ≡ false
 
+-- the node has something outstanding, for which a request to drop waits
+abbrev pub IsOccupied : (L : Type 0) → State L → (node : ℕ) → Type 0
+IsOccupied L s node = (s.request node ≢ NoRequest) ⊎ ((s.walk node ≢ NoWalk) ⊎ (s.victim node ≢ NoVictim))
+
 -- a message of the mover's table, and of the nodes' part in it, meets a row that may be taken
 pub record Served (L : Type 0) (pages blocks : ℕ) (s : State L) : Type 0 where
   -- a walk is for a page that has a frame: it is answered with the frame, or refused where the page is moving
   pub walk : (node page : ℕ) → s.walk node ≡ Walking page → s.role (s.page_table page) ≡ Mapped page
   pub walk_row : (node page : ℕ) → s.walk node ≡ Walking page → guard pages blocks (Walk_answer node page (s.page_table page)) s ⊎ guard pages blocks (Walk_refuse node page) s
-  -- the answer to a walk finds no other walk and no request of the node
-  pub walk_answer : (node page frame : ℕ) → s.walk node ≡ Walked page frame → (s.holder frame node ≡ true) × guard pages blocks (Walk_fill node page frame) s
-  -- a request to drop is for the frame that is gathered, and finds a holder, which answers at once or holds it
+  -- the answer to a walk finds a holder of the frame without a request, whose TLB lacks the page
+  pub walk_answer : (node page frame : ℕ) → s.walk node ≡ Walked page frame → (s.holder frame node ≡ true) × (s.request node ≡ NoRequest) × (s.tlb node page ≡ NoEntry) × guard pages blocks (Walk_fill node page frame) s
+  -- a request to drop is for the frame that is gathered, and finds a holder: it answers at once, or holds the request since a
+  -- request, a walk or a victim of its own is outstanding
   pub drop : (node frame : ℕ) → s.drop node ≡ DropFrame frame → (s.job ≡ Gather frame) × (s.holder frame node ≡ true)
+  pub drop_row : (node frame : ℕ) → s.drop node ≡ DropFrame frame → guard pages blocks (Drop_answer node frame) s ⊎ IsOccupied L s node
   -- so is an answer to it
   pub dropped : (node frame : ℕ) → s.drop node ≡ Dropped frame → (s.holder frame node ≡ true) × guard pages blocks (Drop_take node frame) s
   -- where requests to drop are sent, no node holds one or has one in flight
@@ -137,3 +143,7 @@ Starts L = (pages blocks : ℕ) (blank : L) (page_table : ℕ → ℕ) (role : �
 
 abbrev pub IsKept : (L : Type 0) → Type 0
 IsKept L = (pages blocks : ℕ) (s : State L) (row : Row L) → guard pages blocks row s → Invariant L pages blocks s → Invariant L pages blocks (apply row s)
+
+-- a run that goes on from such a state leads to such a state
+abbrev pub GoesOn : (L : Type 0) → Type 0
+GoesOn L = (pages blocks : ℕ) (s end : State L) (rows : List (Row L)) → Reached L pages blocks s → Runs pages blocks s rows end → Reached L pages blocks end

@@ -136,7 +136,7 @@ Phases pages blocks s frame number = number < blocks → s.phase frame number �
 abbrev pub Named : {L : Type 0} → State L → (node page frame : ℕ) → Type 0
 Named s node page frame = (belongs_to (s.role frame) page ≡ true) × (s.holder frame node ≡ true)
 
--- so does a TLB entry: an access through a stale entry meets a frame of its own page, whose blocks are dead
+-- so it is with a TLB entry: an access through a stale entry meets a frame of its own page, whose blocks are dead
 abbrev pub Entries_by : {L : Type 0} → State L → (node page : ℕ) → TlbEntry → Type 0
 Entries_by s node page NoEntry = Unit {0}
 Entries_by s node page (To frame) = Named s node page frame
@@ -144,7 +144,7 @@ Entries_by s node page (To frame) = Named s node page frame
 abbrev pub Entries : {L : Type 0} → (pages blocks : ℕ) → State L → (node page : ℕ) → Type 0
 Entries pages blocks s node page = Entries_by s node page (s.tlb node page)
 
--- so does the answer to a walk, which may be overtaken by the page's move; and a walk is for a page that has a frame
+-- and with the answer to a walk, which may be overtaken by the page's move; and a walk is for a page that has a frame
 abbrev pub Walks_by : {L : Type 0} → (pages : ℕ) → State L → (node : ℕ) → Walk → Type 0
 Walks_by pages s node NoWalk = Unit {0}
 Walks_by pages s node (Walking page) = page < pages
@@ -154,7 +154,18 @@ Walks_by pages s node (WalkRetry page) = page < pages
 abbrev pub Walks : {L : Type 0} → (pages blocks : ℕ) → State L → (node : ℕ) → Type 0
 Walks pages blocks s node = Walks_by pages s node (s.walk node)
 
--- so does a request: one that reaches its home after the block was poisoned is answered by an error and ends
+-- a node that walks has no request outstanding, and its TLB lacks the page: so the answer fills a page that stands in no slot
+abbrev pub Walkers_by : {L : Type 0} → State L → (node : ℕ) → Walk → Type 0
+Walkers_by s node NoWalk = Unit {0}
+Walkers_by s node (Walking page) = (s.request node ≡ NoRequest) × (s.tlb node page ≡ NoEntry)
+Walkers_by s node (Walked page frame) = (s.request node ≡ NoRequest) × (s.tlb node page ≡ NoEntry)
+Walkers_by s node (WalkRetry page) = (s.request node ≡ NoRequest) × (s.tlb node page ≡ NoEntry)
+
+abbrev pub Walkers : {L : Type 0} → (pages blocks : ℕ) → State L → (node : ℕ) → Type 0
+Walkers pages blocks s node = Walkers_by s node (s.walk node)
+
+-- a request too is for a frame that is or was its page's, and is of a holder: one that reaches its home after the block was
+-- poisoned is answered by an error and ends
 abbrev pub Requests_by : {L : Type 0} → (blocks : ℕ) → State L → (node : ℕ) → Request → Type 0
 Requests_by blocks s node NoRequest = Unit {0}
 Requests_by blocks s node (Outstanding page frame number) = (belongs_to (s.role frame) page ≡ true) × (s.holder frame node ≡ true) × (number < blocks)
@@ -267,6 +278,7 @@ pub record Invariant (L : Type 0) (pages blocks : ℕ) (s : State L) : Type 0 wh
   pub phases : (frame number : ℕ) → Phases pages blocks s frame number
   pub entries : (node page : ℕ) → Entries pages blocks s node page
   pub walks : (node : ℕ) → Walks pages blocks s node
+  pub walkers : (node : ℕ) → Walkers pages blocks s node
   pub requests : (node : ℕ) → Requests pages blocks s node
   pub victims : (node : ℕ) → Victims pages blocks s node
   pub holders : (frame node : ℕ) → Holders pages blocks s frame node

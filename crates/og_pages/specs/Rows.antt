@@ -94,7 +94,7 @@ points_to frame (To other) = nat_eq frame other
 
 -- when a row may be taken, where there are this many pages, and blocks in each
 abbrev pub guard : {L : Type 0} → (pages blocks : ℕ) → Row L → State L → Type 0
-guard pages blocks (Walk_send node page) s = (s.walk node ≡ NoWalk) × (s.request node ≡ NoRequest) × (page < pages)
+guard pages blocks (Walk_send node page) s = (s.walk node ≡ NoWalk) × (s.request node ≡ NoRequest) × (s.tlb node page ≡ NoEntry) × (page < pages)
 guard pages blocks (Walk_answer node page frame) s = (s.walk node ≡ Walking page) × (is_moving s.job page ≡ false) × (s.page_table page ≡ frame)
 guard pages blocks (Walk_refuse node page) s = (s.walk node ≡ Walking page) × (is_moving s.job page ≡ true)
 guard pages blocks (Walk_fill node page frame) s = s.walk node ≡ Walked page frame

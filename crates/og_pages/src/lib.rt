@@ -11,14 +11,15 @@
 //! each page has a frame of its own.
 #![tactic(auto)]
 
-ghost use Rattle.og_pages.specs.Claims.{InEachState, Starts, IsKept, AccessesAnswered, LinesHeld, CopiesPlaced, FramesApart, FreeUnnamed, TargetUnnamed, OnlyHolders, Served, MoverWaits};
+ghost use Rattle.og_pages.specs.Claims.{InEachState, Starts, IsKept, GoesOn, AccessesAnswered, LinesHeld, CopiesPlaced, FramesApart, FreeUnnamed, TargetUnnamed, OnlyHolders, Served, MoverWaits};
 ghost use Rattle.og_pages.specs.Pools.{FreeListed, BeginKeeps, PublishKeeps, ReclaimKeeps, RolesStay};
 ghost use Rattle.og_pages.specs.TlbSlots.{FillIsRows};
 
-/// The invariant holds at the start, and each row keeps it.
+/// The invariant holds at the start, and each row keeps it. A run that goes on from a state that rows lead to is such a run.
 pub fn invariant_is_kept<L>()
     ensures starts { Starts L }
     ensures kept { IsKept L }
+    ensures goes_on { GoesOn L }
 {}
 
 /// Before, during and after every move, the line of each page's block, found where the block lives, is the flat memory's.

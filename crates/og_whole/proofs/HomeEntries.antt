@@ -13,7 +13,7 @@ use Rattle.og_whole.specs.Kind.{Kind, Loads, Stores, Sends, Fills, Fills_store, 
 dead_is : {L : Type 0} → (mover : ℕ) (b : Block L) → phase_of mover b ≡ Dead → GrantedBy mover b.entry → b.entry ≡ PoisonBy mover
 dead_is mover b e en = grind arith
 
--- CleanFrame finds all blocks Poison, and leaves them Unowned
+-- a cleaning finds all blocks of the frame poisoned
 pub clean_finds : {L : Type 0} → (actors mover pages blocks : ℕ) (w : World L) (f k : ℕ) → Invariant L actors mover pages blocks w → k < blocks → w.pages.job ≡ Cleaning f → w.pages.command ≡ CleanFrame → home_entry_at w f k ≡ PoisonBy mover
 clean_finds actors mover pages blocks w f k inv lt e c =
     let j = inv.of_pages.jobs in
@@ -46,20 +46,20 @@ request_not_blank pages blocks s p y f k inv e = let r : Requests pages blocks s
 pub collect_not_blank : {L : Type 0} → (pages blocks : ℕ) (s : Pages L) (f k : ℕ) → PagesInvariant L pages blocks s → k < blocks → s.phase f k ≡ Collecting → is_blank (s.role f) s.job s.command f ≡ false
 collect_not_blank pages blocks s f k inv lt e = let h = inv.phases f k lt in let j = inv.jobs in grind (arith, nat_tests)
 
--- a block's row makes no frame blank, and none full
-pub blank_upon : {L : Type 0} → (mover page o f k : ℕ) (d : Kind L) (s : Pages L) (g : ℕ) → Asked mover page o f k d s → is_blank ((after_above (above mover page o f k d) s).role g) (after_above (above mover page o f k d) s).job (after_above (above mover page o f k d) s).command g ≡ is_blank (s.role g) s.job s.command g
-blank_upon mover page o f k (Loads p) s g out = grind (arith, nat_tests)
-blank_upon mover page o f k (Stores p v) s g out = grind (arith, nat_tests)
-blank_upon mover page o f k (Sends p) s g out = grind (arith, nat_tests)
-blank_upon mover page o f k (Fills p) s g out = grind (arith, nat_tests)
-blank_upon mover page o f k (Fills_store p v) s g out = grind (arith, nat_tests)
-blank_upon mover page o f k (Ends p) s g out = grind (arith, nat_tests)
-blank_upon mover page o f k (Evicts p) s g out = grind (arith, nat_tests)
-blank_upon mover page o f k (Settles p) s g out = grind (arith, nat_tests)
-blank_upon mover page o f k (Poisons p) s g out = grind (arith, nat_tests)
-blank_upon mover page o f k (Collects p l) s g out = grind (arith, nat_tests)
-blank_upon mover page o f k (Copies p v) s g out = grind (arith, nat_tests)
-blank_upon mover page o f k (Inner) s g out = grind (arith, nat_tests)
+-- a row of a block makes no frame blank, and ends no frame's being so
+pub blank_above : {L : Type 0} → (mover page o f k : ℕ) (d : Kind L) (s : Pages L) (g : ℕ) → Asked mover page o f k d s → is_blank ((after_above (above mover page o f k d) s).role g) (after_above (above mover page o f k d) s).job (after_above (above mover page o f k d) s).command g ≡ is_blank (s.role g) s.job s.command g
+blank_above mover page o f k (Loads p) s g out = grind (arith, nat_tests)
+blank_above mover page o f k (Stores p v) s g out = grind (arith, nat_tests)
+blank_above mover page o f k (Sends p) s g out = grind (arith, nat_tests)
+blank_above mover page o f k (Fills p) s g out = grind (arith, nat_tests)
+blank_above mover page o f k (Fills_store p v) s g out = grind (arith, nat_tests)
+blank_above mover page o f k (Ends p) s g out = grind (arith, nat_tests)
+blank_above mover page o f k (Evicts p) s g out = grind (arith, nat_tests)
+blank_above mover page o f k (Settles p) s g out = grind (arith, nat_tests)
+blank_above mover page o f k (Poisons p) s g out = grind (arith, nat_tests)
+blank_above mover page o f k (Collects p l) s g out = grind (arith, nat_tests)
+blank_above mover page o f k (Copies p v) s g out = grind (arith, nat_tests)
+blank_above mover page o f k (Inner) s g out = grind (arith, nat_tests)
 
 free_entry : {L : Type 0} → (actors mover pages blocks : ℕ) (w : World L) (f k : ℕ) → Invariant L actors mover pages blocks w → k < blocks → w.pages.role f ≡ FreeRole → home_entry_at w f k ≡ Unowned
 free_entry actors mover pages blocks w f k inv lt e =

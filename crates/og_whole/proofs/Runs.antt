@@ -1,5 +1,5 @@
 -- The invariant of the whole holds at the start and after every run.
-use Rattle.std.proofs.Common.{◌≡◌, ℕ, ◌<◌, false, arith, refl, subst, List, [], ◌∷◌}
+use Rattle.std.proofs.Common.{◌≡◌, ℕ, ◌<◌, false, arith, refl, subst, List, [], ◌∷◌, sym, ◌++◌}
 use Rattle.std.proofs.lemmas.Bool.Decides.{nat_tests}
 use Rattle.og_block.specs.State.{start as block_start, NoInvalidation, Sharing}
 use Rattle.og_block.specs.Invariant.{Local}
@@ -70,3 +70,21 @@ flat_run {L} actors mover pages blocks (e ∷ es) w z lm inv run =
     let r = flat_run actors mover pages blocks es (apply actors mover e w) z lm (kept actors mover pages blocks w e lm run.0 inv) run.1 in
     let h : (apply actors mover e w).pages.memory ≡ memory_after e w.pages.memory = memory_follows actors mover pages blocks e w run.0 in
     ((answered actors mover pages blocks w e lm run.0 inv, subst (λ (x : ℕ → ℕ → L). FlatRun x es) h r.0), subst (λ (x : ℕ → ℕ → L). z.pages.memory ≡ memory_of es x) h r.1)
+
+runs_append : {L : Type 0} → (actors mover pages blocks : ℕ) (es more : List (Event L)) (w z end : World L) → Runs actors mover pages blocks w es z → Runs actors mover pages blocks z more end → Runs actors mover pages blocks w (es ++ more) end
+runs_append {L} actors mover pages blocks [] more w z end run on = subst (λ (x : World L). Runs actors mover pages blocks x more end) (sym run) on
+runs_append actors mover pages blocks (e ∷ es) more w z end run on = (run.0, runs_append actors mover pages blocks es more (apply actors mover e w) z end run.1 on)
+
+pub goes_on : {L : Type 0} → (actors mover pages blocks : ℕ) (w end : World L) (events : List (Event L)) → Reached L actors mover pages blocks w → Runs actors mover pages blocks w events end → Reached L actors mover pages blocks end
+goes_on actors mover pages blocks w end events r on = record {
+  inside = r.inside;
+  sharing = r.sharing;
+  apart = r.apart;
+  blank = r.blank;
+  page_table = r.page_table;
+  role = r.role;
+  memory = r.memory;
+  events = r.events ++ events;
+  laid = r.laid;
+  run = runs_append actors mover pages blocks r.events events (start r.sharing mover r.blank r.page_table r.role r.memory) w end r.run on;
+}

@@ -94,3 +94,7 @@ Starts L = (actors mover pages blocks : ℕ) (sharing : Sharing) (blank : L) (pa
 
 abbrev pub IsKept : (L : Type 0) → Type 0
 IsKept L = (actors mover pages blocks : ℕ) (w : World L) (event : Event L) → mover < actors → guard actors mover pages blocks event w → Invariant L actors mover pages blocks w → Invariant L actors mover pages blocks (apply actors mover event w)
+
+-- events that go on from such a world lead to such a world
+abbrev pub GoesOn : (L : Type 0) → Type 0
+GoesOn L = (actors mover pages blocks : ℕ) (w end : World L) (events : List (Event L)) → Reached L actors mover pages blocks w → Runs actors mover pages blocks w events end → Reached L actors mover pages blocks end

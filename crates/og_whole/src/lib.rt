@@ -14,13 +14,15 @@
 ghost use Rattle.og_pages.specs.Claims.{FreeUnnamed, TargetUnnamed, OnlyHolders, Served, MoverWaits};
 ghost use Rattle.og_whole.specs.HomeEntry.{EntriesMet, PageRowsKeepEntries, BlockRowsKeepBlank};
 ghost use Rattle.og_whole.specs.Charges.{KeysApart, AtMostKeys};
-ghost use Rattle.og_whole.specs.Claims.{InEachWorld, InEachPages, Starts, IsKept, AccessesFlat, MemoryFollows, LinesHeld, StoresLand, WriterAlone, CopiesPlaced, FreeClear, PoisonServed};
+ghost use Rattle.og_whole.specs.Claims.{InEachWorld, InEachPages, Starts, IsKept, GoesOn, AccessesFlat, MemoryFollows, LinesHeld, StoresLand, WriterAlone, CopiesPlaced, FreeClear, PoisonServed};
 ghost use Rattle.og_whole.specs.Example.{Happens};
 
-/// The invariant of the whole holds at the start, and each event that may happen keeps it.
+/// The invariant of the whole holds at the start, and each event that may happen keeps it. Events that go on from
+/// a world that events lead to are such a run.
 pub fn invariant_is_kept<L>()
     ensures starts { Starts L }
     ensures kept { IsKept L }
+    ensures goes_on { GoesOn L }
 {}
 
 /// The accesses of all nodes, in their order, are a run of one flat memory of pages. Before, during and after every move the

@@ -1,7 +1,7 @@
 use Rattle.og_whole.specs.Kind.{kind}
 use Rattle.og_whole.proofs.Runs.{reached}
 use Rattle.og_whole.proofs.PageRows.{page_entry}
-use Rattle.og_whole.proofs.HomeEntries.{blank_upon}
+use Rattle.og_whole.proofs.HomeEntries.{blank_above}
 use Rattle.og_whole.proofs.home_entries_follow.Goals as goal
 
 pub returns-clause-page_rows : goal.returns-clause-page_rows
@@ -11,4 +11,4 @@ returns-clause-page_rows g c = λ actors mover pages blocks w row frame number r
     page_entry pages blocks mover w.pages frame number (w.block frame number) row may.0 inv.of_pages lt may.1 l.phase_is l.parts.only_poisons.4 not_cleans
 
 pub returns-clause-block_rows : goal.returns-clause-block_rows
-returns-clause-block_rows g c = λ actors mover pages blocks w page other frame number row h may. blank_upon mover page other frame number (kind row) w.pages h may.3
+returns-clause-block_rows g c = λ actors mover pages blocks w page other frame number row h may. blank_above mover page other frame number (kind row) w.pages h may.3
