@@ -22,3 +22,9 @@ pub mod Kept_home
 pub mod All
 pub mod Held
 pub mod Run
+pub mod Kept_mover
+pub mod Kept_plain
+pub mod Kept_ends
+pub mod Kept_reply
+pub mod Roles
+pub mod Served
