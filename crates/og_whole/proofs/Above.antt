@@ -4,8 +4,7 @@ use Rattle.std.proofs.lemmas.Bool.Decides.{nat_tests}
 use Rattle.og_block.specs.State.{Block}
 use Rattle.og_pages.specs.State.{State as Pages, VictimSlot, VictimOf}
 use Rattle.og_pages.specs.Rows.{guard as page_guard}
-use Rattle.og_whole.specs.Kind.{Kind, Loads, Stores, Sends, Fills, Fills_store, Ends, Evicts, Settles, Poisons, Collects, Copies, Inner, phase_of, has_copy, is_taken, phase_after, idle_after, taken_after, copy_after, newest_after}
-use Rattle.og_whole.specs.Actors.{Finds}
+use Rattle.og_whole.specs.Kind.{Kind, Loads, Stores, Sends, Fills, Fills_store, Ends, Evicts, Settles, Poisons, Collects, Copies, Inner, phase_of, has_copy, is_taken, phase_after, idle_after, taken_after, copy_after, newest_after, Finds}
 use Rattle.og_whole.specs.Events.{Above, Nothing, Does, above, after_above, Asked}
 use Rattle.og_whole.specs.Link.{asks_for, stands_for}
 

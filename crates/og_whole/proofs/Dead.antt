@@ -8,7 +8,7 @@ use Rattle.og_block.specs.Invariant.{Invariant, Asks, Counted, Local, Home}
 use Rattle.og_block.specs.Views.{is_holder, owns, trusts, trusts_at, pending}
 use Rattle.og_block.proofs.Alone.{no_other_trusts, no_other_owns, quiet}
 use Rattle.og_pages.specs.State.{Dead}
-use Rattle.og_whole.specs.Actors.{OnlyPoisons, NeverPoisons, GrantedBy}
+use Rattle.og_block.specs.Roles.{Mover, Plain, Ends_by}
 use Rattle.og_whole.specs.Claims.{Clear}
 use Rattle.og_whole.specs.Kind.{phase_of, has_copy}
 
@@ -16,7 +16,7 @@ no_copy : {L : Type 0} → (c : Copy L) (w : Want) (a : Ask L) (r : Response L) 
 no_copy c w a r k t o = grind arith
 
 -- where the mover has the block and waits for nothing, no node has a copy
-pub none_left : {L : Type 0} → (n : ℕ) (f : L) (m q : ℕ) (b : Block L) → Invariant n f b → OnlyPoisons m b → is_holder b.entry b.revision m ≡ true → pending n b m ≡ 0 → q < n → has_copy (b.copy q) ≡ false
+pub none_left : {L : Type 0} → (n : ℕ) (f : L) (m q : ℕ) (b : Block L) → Invariant n f b → Mover m b → is_holder b.entry b.revision m ≡ true → pending n b m ≡ 0 → q < n → has_copy (b.copy q) ≡ false
 none_left n f m q b inv mv h none lq = go (cases_Bool (nat_eq q m))
   where
     go : (nat_eq q m ≡ true) ⊎ (nat_eq q m ≡ false) → has_copy (b.copy q) ≡ false
@@ -25,15 +25,15 @@ none_left n f m q b inv mv h none lq = go (cases_Bool (nat_eq q m))
         let d : q ≢ m = grind (arith, nat_tests) in
         no_copy (b.copy q) (b.want q) (b.ask q) (b.response q) (b.back q) (no_other_trusts n f m q b inv lq h none d) (no_other_owns n f m q b inv lq h d)
 
-collector : {L : Type 0} → (n : ℕ) (f : L) (m p : ℕ) (l : L) (d : ℕ) (b : Block L) → guard (Poison_collected p l d) b → Local n f b p → NeverPoisons m b p → (p ≡ m) × (is_holder b.entry b.revision p ≡ true) × (pending n b p ≡ 0)
+collector : {L : Type 0} → (n : ℕ) (f : L) (m p : ℕ) (l : L) (d : ℕ) (b : Block L) → guard (Poison_collected p l d) b → Local n f b p → Plain m b p → (p ≡ m) × (is_holder b.entry b.revision p ≡ true) × (pending n b p ≡ 0)
 collector n f m p l d b g h pl = grind (arith, nat_tests)
 
-pub none_collected : {L : Type 0} → (n : ℕ) (f : L) (m p : ℕ) (l : L) (d q : ℕ) (b : Block L) → guard (Poison_collected p l d) b → Invariant n f b → p < n → NeverPoisons m b p → OnlyPoisons m b → q < n → has_copy (b.copy q) ≡ false
+pub none_collected : {L : Type 0} → (n : ℕ) (f : L) (m p : ℕ) (l : L) (d q : ℕ) (b : Block L) → guard (Poison_collected p l d) b → Invariant n f b → p < n → Plain m b p → Mover m b → q < n → has_copy (b.copy q) ≡ false
 none_collected n f m p l d q b g inv lp pl mv lq =
     let c = collector n f m p l d b g (inv.each p lp) pl in
     none_left n f m q b inv mv (subst (λ (x : ℕ). is_holder b.entry b.revision x ≡ true) c.0 c.1) (subst (λ (x : ℕ). pending n b x ≡ 0) c.0 c.2) lq
 
-dead_holds : {L : Type 0} → (n : ℕ) (f : L) (m : ℕ) (b : Block L) → phase_of m b ≡ Dead → GrantedBy m b.entry → Asks b m → Counted n b m → (is_holder b.entry b.revision m ≡ true) × (pending n b m ≡ 0)
+dead_holds : {L : Type 0} → (n : ℕ) (f : L) (m : ℕ) (b : Block L) → phase_of m b ≡ Dead → Ends_by m b.entry → Asks b m → Counted n b m → (is_holder b.entry b.revision m ≡ true) × (pending n b m ≡ 0)
 dead_holds n f m b e en a c = grind (arith, nat_tests)
 
 -- no stake
@@ -43,7 +43,7 @@ pub record Bare (L : Type 0) (b : Block L) (q : ℕ) : Type 0 where
   pub owned : owns (b.copy q) (b.want q) (b.ask q) (b.response q) (b.back q) ≡ false
   pub invalidation : b.invalidation q ≡ NoInvalidation
 
-pub bare : {L : Type 0} → (n : ℕ) (f : L) (m q : ℕ) (b : Block L) → phase_of m b ≡ Dead → Invariant n f b → GrantedBy m b.entry → OnlyPoisons m b → m < n → q < n → q ≢ m → Bare L b q
+pub bare : {L : Type 0} → (n : ℕ) (f : L) (m q : ℕ) (b : Block L) → phase_of m b ≡ Dead → Invariant n f b → Ends_by m b.entry → Mover m b → m < n → q < n → q ≢ m → Bare L b q
 bare n f m q b e inv en mv lm lq ne =
     let hm : Local n f b m = inv.each m lm in
     let h = dead_holds n f m b e en hm.asks hm.counted in
@@ -55,7 +55,7 @@ bare n f m q b e inv en mv lm lq ne =
     }
 
 -- where it has neither request nor victim for the block, nothing of it is in flight
-pub clear : {L : Type 0} → (n : ℕ) (f : L) (m q : ℕ) (b : Block L) → phase_of m b ≡ Dead → Home n f b → GrantedBy m b.entry → Local n f b q → Bare L b q → b.want q ≡ Idle → b.victim q ≡ Free → Clear L b q
+pub clear : {L : Type 0} → (n : ℕ) (f : L) (m q : ℕ) (b : Block L) → phase_of m b ≡ Dead → Home n f b → Ends_by m b.entry → Local n f b q → Bare L b q → b.want q ≡ Idle → b.victim q ≡ Free → Clear L b q
 clear n f m q b e home en h br w v = record {
   copy = let t = br.copy in grind arith;
   ask = grind (arith, nat_tests);
@@ -69,7 +69,7 @@ clear n f m q b e home en h br w v = record {
 }
 
 -- nor is anything of it with the mover
-pub clear_mover : {L : Type 0} → (n : ℕ) (f : L) (m : ℕ) (b : Block L) → phase_of m b ≡ Dead → Home n f b → GrantedBy m b.entry → Local n f b m → OnlyPoisons m b → Clear L b m
+pub clear_mover : {L : Type 0} → (n : ℕ) (f : L) (m : ℕ) (b : Block L) → phase_of m b ≡ Dead → Home n f b → Ends_by m b.entry → Local n f b m → Mover m b → Clear L b m
 clear_mover n f m b e home en h mv = record {
   copy = mv.0;
   ask = grind (arith, nat_tests);

@@ -5,12 +5,12 @@ use Rattle.og_block.specs.State.{Unowned, PoisonBy, Block}
 use Rattle.og_pages.specs.State.{CleanFrame, State as Pages, Free as FreeRole, Wait, Cleaning, CopyIn, FrameClean, Outstanding, Collecting, Dead}
 use Rattle.og_pages.specs.Invariant.{Invariant as PagesInvariant, Requests, Gathering}
 use Rattle.og_whole.specs.Link.{Invariant}
-use Rattle.og_whole.specs.Actors.{GrantedBy}
+use Rattle.og_block.specs.Roles.{Ends_by}
 use Rattle.og_whole.specs.Events.{World, above, after_above, Asked}
 use Rattle.og_whole.specs.HomeEntry.{is_blank, home_entry_at, EntriesMet}
 use Rattle.og_whole.specs.Kind.{Kind, Loads, Stores, Sends, Fills, Fills_store, Ends, Evicts, Settles, Poisons, Collects, Copies, Inner, phase_of}
 
-dead_is : {L : Type 0} → (mover : ℕ) (b : Block L) → phase_of mover b ≡ Dead → GrantedBy mover b.entry → b.entry ≡ PoisonBy mover
+dead_is : {L : Type 0} → (mover : ℕ) (b : Block L) → phase_of mover b ≡ Dead → Ends_by mover b.entry → b.entry ≡ PoisonBy mover
 dead_is mover b e en = grind arith
 
 -- a cleaning finds all blocks of the frame poisoned
@@ -20,7 +20,7 @@ clean_finds actors mover pages blocks w f k inv lt e c =
     let h = inv.of_pages.phases f k lt in
     let l = inv.link f k lt in
     let d : phase_of mover (w.block f k) ≡ Dead = let x = l.phase_is in grind arith in
-    let i : (w.block f k).entry ≡ PoisonBy mover = dead_is mover (w.block f k) d l.parts.granted in grind arith
+    let i : (w.block f k).entry ≡ PoisonBy mover = dead_is mover (w.block f k) d l.parts.ends in grind arith
 
 pub clean_leaves : {L : Type 0} → (actors mover pages blocks : ℕ) (w : World L) (f k : ℕ) → Invariant L actors mover pages blocks w → k < blocks → w.pages.job ≡ Cleaning f → w.pages.command ≡ FrameClean → home_entry_at w f k ≡ Unowned
 clean_leaves actors mover pages blocks w f k inv lt e c =
@@ -28,7 +28,7 @@ clean_leaves actors mover pages blocks w f k inv lt e c =
     let h = inv.of_pages.phases f k lt in
     let l = inv.link f k lt in
     let d : phase_of mover (w.block f k) ≡ Dead = let x = l.phase_is in grind arith in
-    let i : (w.block f k).entry ≡ PoisonBy mover = dead_is mover (w.block f k) d l.parts.granted in grind (arith, nat_tests)
+    let i : (w.block f k).entry ≡ PoisonBy mover = dead_is mover (w.block f k) d l.parts.ends in grind (arith, nat_tests)
 
 pub copy_finds : {L : Type 0} → (actors mover pages blocks : ℕ) (w : World L) (page o f k : ℕ) (v : L) → Invariant L actors mover pages blocks w → k < blocks → w.pages.job ≡ Wait page o f k → w.pages.command ≡ CopyIn v → home_entry_at w f k ≡ Unowned
 copy_finds actors mover pages blocks w page o f k v inv lt e c =
@@ -36,7 +36,7 @@ copy_finds actors mover pages blocks w page o f k v inv lt e c =
     let h = inv.of_pages.phases f k lt in
     let l = inv.link f k lt in
     let d : phase_of mover (w.block f k) ≡ Dead = let x = l.phase_is in grind (arith, nat_tests) in
-    let i : (w.block f k).entry ≡ PoisonBy mover = dead_is mover (w.block f k) d l.parts.granted in grind (arith, nat_tests)
+    let i : (w.block f k).entry ≡ PoisonBy mover = dead_is mover (w.block f k) d l.parts.ends in grind (arith, nat_tests)
 
 -- no request is for a blank frame, so an Unowned entry that serves one is Unowned in the layer of blocks too
 pub request_not_blank : {L : Type 0} → (pages blocks : ℕ) (s : Pages L) (p y f k : ℕ) → PagesInvariant L pages blocks s → s.request p ≡ Outstanding y f k → is_blank (s.role f) s.job s.command f ≡ false
@@ -66,7 +66,7 @@ free_entry actors mover pages blocks w f k inv lt e =
     let h = inv.of_pages.phases f k lt in
     let l = inv.link f k lt in
     let d : phase_of mover (w.block f k) ≡ Dead = let x = l.phase_is in grind arith in
-    let i : (w.block f k).entry ≡ PoisonBy mover = dead_is mover (w.block f k) d l.parts.granted in grind arith
+    let i : (w.block f k).entry ≡ PoisonBy mover = dead_is mover (w.block f k) d l.parts.ends in grind arith
 
 pub entries_met : {L : Type 0} → (actors mover pages blocks : ℕ) (w : World L) → Invariant L actors mover pages blocks w → EntriesMet L actors mover pages blocks w
 entries_met actors mover pages blocks w inv = record {

@@ -7,7 +7,7 @@ use Rattle.og_slots.specs.Flight.{Fits}
 use Rattle.og_slots.proofs.Flight.{fits_coarser}
 use Rattle.og_slots.proofs.Room.{room_for_all}
 use Rattle.og_whole.specs.Kind.{is_taken}
-use Rattle.og_whole.specs.Actors.{OnlyPoisons}
+use Rattle.og_block.specs.Roles.{Mover}
 use Rattle.og_whole.specs.Events.{World}
 use Rattle.og_whole.specs.Link.{Invariant}
 use Rattle.og_whole.specs.Charges.{Slot, At_ask, At_response, At_back, At_intervention, At_revision, At_invalidation, At_command, At_walk, At_drop, At_notice, Key, Ask, Response, Back, Left, Busy, Invalidation, Walk, Drop, Notice, key_of, IsFull, key_count}
@@ -102,10 +102,10 @@ number_one nodes frames blocks x y a b e = let i = index_below nodes frames bloc
 
 -- ---- a full slot's key is one of them
 
-no_response : {L : Type 0} → (b : Block L) (p : ℕ) → OnlyPoisons p b → Asks b p → b.response p ≡ NoResponse
+no_response : {L : Type 0} → (b : Block L) (p : ℕ) → Mover p b → Asks b p → b.response p ≡ NoResponse
 no_response b p only asks = grind arith
 
-no_back : {L : Type 0} → (b : Block L) (p : ℕ) → OnlyPoisons p b → Backs b p → b.back p ≡ NoBack
+no_back : {L : Type 0} → (b : Block L) (p : ℕ) → Mover p b → Backs b p → b.back p ≡ NoBack
 no_back b p only backs = grind arith
 
 below : (p nodes : ℕ) → p < nodes + 1 → p ≢ nodes → p < nodes
@@ -115,18 +115,18 @@ module _ {L : Type 0} (nodes frames pages blocks : ℕ) (w : World L) (inv : Inv
   full_is_key : (slot : Slot) → IsFull nodes frames blocks w slot → IsKey nodes frames blocks (key_of nodes w slot)
   full_is_key (At_ask f k p) full = full.1
   full_is_key (At_response f k p) full = below p nodes full.1 (λ e.
-      let l = inv.link f k full.0 in let h = no_response (w.block f k) nodes l.parts.only_poisons (l.invariant.each nodes (omega arith)).asks in
+      let l = inv.link f k full.0 in let h = no_response (w.block f k) nodes l.parts.mover (l.invariant.each nodes (omega arith)).asks in
       full.2 (cc))
   full_is_key (At_back f k p) full = below p nodes full.1 (λ e.
-      let l = inv.link f k full.0 in let h = no_back (w.block f k) nodes l.parts.only_poisons (l.invariant.each nodes (omega arith)).backs in
+      let l = inv.link f k full.0 in let h = no_back (w.block f k) nodes l.parts.mover (l.invariant.each nodes (omega arith)).backs in
       full.2 (cc))
   full_is_key (At_intervention f k p) full = by (is_taken ((w.block f k).victim p))
     where
       by : (taken : Bool) → IsKey nodes frames blocks (cond taken (Left p) (Busy f k))
-      by true = below p nodes full.1 (λ e. let only = (inv.link f k full.0).parts.only_poisons in let i = full.2 in grind arith)
+      by true = below p nodes full.1 (λ e. let only = (inv.link f k full.0).parts.mover in let i = full.2 in grind arith)
       by false = (full.3, full.0)
   full_is_key (At_revision f k) full = (full.2, full.0)
-  full_is_key (At_invalidation f k r p) full = (full.2, below p nodes full.1 (λ e. let only = (inv.link f k full.0).parts.only_poisons in let i = full.3 in grind arith))
+  full_is_key (At_invalidation f k r p) full = (full.2, below p nodes full.1 (λ e. let only = (inv.link f k full.0).parts.mover in let i = full.3 in grind arith))
   full_is_key At_command full = omega arith
   full_is_key (At_walk p) full = full.1
   full_is_key (At_drop p) full = full.1

@@ -19,14 +19,14 @@ module _ {L : Type 0} (nodes frames pages blocks : ℕ) (w : World L) (inv : Inv
 
   -- the mover has no slot
   taken_node : (f k p : ℕ) → k < blocks → is_taken ((w.block f k).victim p) ≡ true → p ≢ nodes
-  taken_node f k p lk t e = let mv = (inv.link f k lk).parts.only_poisons in absurd (grind arith)
+  taken_node f k p lk t e = let mv = (inv.link f k lk).parts.mover in absurd (grind arith)
 
   ask_command : (f k p : ℕ) → k < blocks → p < (nodes + 1) → (w.block f k).ask p ≢ NoAsk → p ≡ nodes → w.pages.command ≢ NoCommand → ⊥
   ask_command f k p lk lp a e c =
       let i : is_idle ((w.block f k).want p) ≡ false = ask_busy (nodes + 1) (w.pages.newest f k) p (w.block f k) (node_at f k p lk lp) a in
       let l = inv.link f k lk in
       let i' : is_idle ((w.block f k).want nodes) ≡ false = cc in
-      let h : phase_of nodes (w.block f k) ≡ Collecting = mover_collects nodes (w.block f k) l.parts.only_poisons i' in
+      let h : phase_of nodes (w.block f k) ≡ Collecting = mover_collects nodes (w.block f k) l.parts.mover i' in
       let x = l.phase_is in
       command_alone pages blocks w.pages f k inv.of_pages lk c (cc)
 

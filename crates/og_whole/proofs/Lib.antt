@@ -1,9 +1,4 @@
 pub mod Dead
-pub mod KeptMover
-pub mod KeptNodes
-pub mod KeptGrants
-pub mod KeptAnswers
-pub mod KeptSharing
 pub mod SeenPhase
 pub mod SeenRequest
 pub mod SeenVictim

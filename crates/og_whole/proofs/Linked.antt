@@ -4,21 +4,17 @@ use Rattle.std.proofs.lemmas.Bool.Decides.{nat_tests}
 use Rattle.og_block.specs.Invariant.{Invariant as BlockInvariant, Local}
 use Rattle.og_block.specs.Rows.{Row as BlockRow, guard as block_guard, apply as block_apply, Send_read, Send_read_exclusive, Send_upgrade, Copy_in, Send_poison_read, actor_of}
 use Rattle.og_block.proofs.All.{kept as block_kept}
+use Rattle.og_block.proofs.Roles.{roles_kept}
 use Rattle.og_block.specs.Access.{flat_after}
 use Rattle.og_block.specs.State.{Block}
 use Rattle.og_pages.specs.State.{Ask, State as Pages, Live}
 use Rattle.og_pages.specs.Invariant.{Invariant as PagesInvariant}
-use Rattle.og_whole.specs.Actors.{NeverPoisons, Allowed, Finds}
+use Rattle.og_block.specs.Roles.{Plain, Allowed}
 use Rattle.og_whole.specs.Events.{above, after_above, Asked}
 use Rattle.og_whole.specs.Example.{after}
-use Rattle.og_whole.specs.Kind.{Kind, kind, phase_of, is_idle, is_taken, has_copy, phase_after, idle_after, taken_after, copy_after, newest_after}
+use Rattle.og_whole.specs.Kind.{Kind, kind, phase_of, is_idle, is_taken, has_copy, phase_after, idle_after, taken_after, copy_after, newest_after, Finds}
 use Rattle.og_whole.specs.Link.{asks_for, stands_for, Link}
 use Rattle.og_whole.proofs.Above.{MayBeAbove, Inside, above_may, line_above, phase_above, request_above, victim_above, copy_above}
-use Rattle.og_whole.proofs.KeptAnswers.{answers_kept}
-use Rattle.og_whole.proofs.KeptGrants.{grants_kept}
-use Rattle.og_whole.proofs.KeptMover.{mover_kept}
-use Rattle.og_whole.proofs.KeptNodes.{nodes_kept}
-use Rattle.og_whole.proofs.KeptSharing.{sharing_kept}
 use Rattle.og_whole.proofs.SeenCopy.{copy_seen}
 use Rattle.og_whole.proofs.SeenFinds.{row_finds}
 use Rattle.og_whole.proofs.SeenLine.{line_seen}
@@ -58,13 +54,7 @@ pub same : {L : Type 0} → (actors mover pages blocks page o f k : ℕ) (s : Pa
     Link actors mover (after_above (above mover page o f k (kind r)) s) (block_apply actors r b) f k
 same {L} actors mover pages blocks page o f k s b r g lp lm lt out inv l = record {
   invariant = subst (λ (x : L). BlockInvariant actors x (block_apply actors r b)) newest (block_kept actors (s.newest f k) b r g l.invariant lp);
-  parts = record {
-    only_poisons = mover_kept actors (s.newest f k) mover b r g ok l.invariant lp lm l.invariant.home hp hm l.parts.only_poisons pp l.parts.granted l.parts.answered l.parts.apart;
-    never_poison = λ q lq. nodes_kept actors (s.newest f k) mover b r g ok l.invariant lp lm l.invariant.home hp hm l.parts.only_poisons pp l.parts.granted l.parts.answered l.parts.apart q lq (l.invariant.each q lq) (l.parts.never_poison q lq);
-    granted = grants_kept actors (s.newest f k) mover b r g ok l.invariant lp lm l.invariant.home hp hm l.parts.only_poisons pp l.parts.granted l.parts.answered l.parts.apart;
-    answered = answers_kept actors (s.newest f k) mover b r g ok l.invariant lp lm l.invariant.home hp hm l.parts.only_poisons pp l.parts.granted l.parts.answered l.parts.apart;
-    apart = λ q ne. let h = l.parts.apart q ne in let e = sharing_kept actors b r in cc;
-  };
+  parts = roles_kept actors (s.newest f k) mover b r g ok l.invariant lp lm l.parts;
   phase_is = phase;
   want_is = want;
   slot_is = slot;
@@ -80,39 +70,39 @@ same {L} actors mover pages blocks page o f k s b r g lp lm lt out inv l = recor
     hm : Local actors (s.newest f k) b mover
     hm = l.invariant.each mover lm
 
-    pp : NeverPoisons mover b (actor_of r)
-    pp = l.parts.never_poison (actor_of r) lp
+    pp : Plain mover b (actor_of r)
+    pp = l.parts.plain (actor_of r) lp
 
     fact : Finds mover (s.newest f k) (kind r) b
-    fact = row_finds actors (s.newest f k) mover b r g ok l.invariant lp lm l.invariant.home hp hm l.parts.only_poisons pp l.parts.granted l.parts.answered l.parts.apart
+    fact = row_finds actors (s.newest f k) mover b r g ok l.invariant lp lm l.invariant.home hp hm l.parts.mover pp l.parts.ends l.parts.reply
 
     ac : Inside actors (kind r)
     ac = kind_inside actors r lp
 
     newest : flat_after r (s.newest f k) ≡ (after_above (above mover page o f k (kind r)) s).newest f k
-    newest = let a : flat_after r (s.newest f k) ≡ newest_after (kind r) (s.newest f k) = line_seen actors (s.newest f k) mover b r g ok l.invariant lp lm l.invariant.home hp hm l.parts.only_poisons pp l.parts.granted l.parts.answered l.parts.apart in
+    newest = let a : flat_after r (s.newest f k) ≡ newest_after (kind r) (s.newest f k) = line_seen actors (s.newest f k) mover b r g ok l.invariant lp lm l.invariant.home hp hm l.parts.mover pp l.parts.ends l.parts.reply in
         joins f k (newest_after (kind r)) (flat_after r (s.newest f k)) (s.newest f k) (s.newest f k) ((after_above (above mover page o f k (kind r)) s).newest f k) refl a (line_above actors mover page o f k (kind r) s b out fact l.slot_is ac f k)
 
     phase : phase_of mover (block_apply actors r b) ≡ (after_above (above mover page o f k (kind r)) s).phase f k
     phase = joins f k (phase_after mover (kind r)) (phase_of mover (block_apply actors r b)) (phase_of mover b) (s.phase f k) ((after_above (above mover page o f k (kind r)) s).phase f k) l.phase_is
-        (phase_seen actors (s.newest f k) mover b r g ok l.invariant lp lm l.invariant.home hp hm l.parts.only_poisons pp l.parts.granted l.parts.answered l.parts.apart)
+        (phase_seen actors (s.newest f k) mover b r g ok l.invariant lp lm l.invariant.home hp hm l.parts.mover pp l.parts.ends l.parts.reply)
         (phase_above actors mover page o f k (kind r) s b out fact l.slot_is ac f k)
 
     want : (q : ℕ) → q < actors → q ≢ mover → is_idle ((block_apply actors r b).want q) ≡ not (asks_for ((after_above (above mover page o f k (kind r)) s).request q) f k)
     want q lq ne = joins f k (idle_after (kind r) q) (is_idle ((block_apply actors r b).want q)) (is_idle (b.want q)) (not (asks_for (s.request q) f k)) (not (asks_for ((after_above (above mover page o f k (kind r)) s).request q) f k)) (l.want_is q lq ne)
-        (request_seen actors (s.newest f k) mover b r g ok l.invariant lp lm l.invariant.home hp hm l.parts.only_poisons pp l.parts.granted l.parts.answered l.parts.apart q lq (l.invariant.each q lq) (l.parts.never_poison q lq))
+        (request_seen actors (s.newest f k) mover b r g ok l.invariant lp lm l.invariant.home hp hm l.parts.mover pp l.parts.ends l.parts.reply q lq (l.invariant.each q lq) (l.parts.plain q lq))
         (request_above actors mover page o f k (kind r) s b out fact l.slot_is ac f k q ne)
 
     slot : (q : ℕ) → q < actors → q ≢ mover → is_taken ((block_apply actors r b).victim q) ≡ stands_for ((after_above (above mover page o f k (kind r)) s).victim q) f k
     slot q lq ne = joins f k (taken_after (kind r) q) (is_taken ((block_apply actors r b).victim q)) (is_taken (b.victim q)) (stands_for (s.victim q) f k) (stands_for ((after_above (above mover page o f k (kind r)) s).victim q) f k) (l.slot_is q lq ne)
-        (victim_seen actors (s.newest f k) mover b r g ok l.invariant lp lm l.invariant.home hp hm l.parts.only_poisons pp l.parts.granted l.parts.answered l.parts.apart q lq (l.invariant.each q lq) (l.parts.never_poison q lq))
+        (victim_seen actors (s.newest f k) mover b r g ok l.invariant lp lm l.invariant.home hp hm l.parts.mover pp l.parts.ends l.parts.reply q lq (l.invariant.each q lq) (l.parts.plain q lq))
         (victim_above actors mover page o f k (kind r) s b out fact l.slot_is ac f k q ne)
 
     copy : (q : ℕ) → q < actors → has_copy ((block_apply actors r b).copy q) ≡ true → (after_above (above mover page o f k (kind r)) s).cached f k q ≡ true
     copy q lq e =
         let z = here_is f k (copy_after (kind r) q (s.cached f k q)) (s.cached f k q) in
         let x = copy_mono (kind r) q (has_copy (b.copy q)) (s.cached f k q) (l.copy_is q lq)
-        (copy_seen actors (s.newest f k) mover b r g ok l.invariant lp lm l.invariant.home hp hm l.parts.only_poisons pp l.parts.granted l.parts.answered l.parts.apart q lq (l.invariant.each q lq) (l.parts.never_poison q lq) e) in
+        (copy_seen actors (s.newest f k) mover b r g ok l.invariant lp lm l.invariant.home hp hm l.parts.mover pp l.parts.ends l.parts.reply q lq (l.invariant.each q lq) (l.parts.plain q lq) e) in
         let y = copy_above actors mover page o f k (kind r) s b out fact l.slot_is ac f k q in cc
 
 -- a block's row keeps the link of every other block
@@ -142,7 +132,7 @@ others {L} actors mover pages blocks page o f k s b r gd lp lm lt out inv l g j 
     ok = allowed actors mover pages blocks page o f k s b r gd out inv lt l.phase_is
 
     fact : Finds mover (s.newest f k) (kind r) b
-    fact = row_finds actors (s.newest f k) mover b r gd ok l.invariant lp lm l.invariant.home (l.invariant.each (actor_of r) lp) (l.invariant.each mover lm) l.parts.only_poisons (l.parts.never_poison (actor_of r) lp) l.parts.granted l.parts.answered l.parts.apart
+    fact = row_finds actors (s.newest f k) mover b r gd ok l.invariant lp lm l.invariant.home (l.invariant.each (actor_of r) lp) (l.invariant.each mover lm) l.parts.mover (l.parts.plain (actor_of r) lp) l.parts.ends l.parts.reply
 
     ac : Inside actors (kind r)
     ac = kind_inside actors r lp
@@ -151,5 +141,5 @@ others {L} actors mover pages blocks page o f k s b r gd lp lm lt out inv l g j 
 pub may : {L : Type 0} → (actors mover pages blocks page o f k : ℕ) (s : Pages L) (b : Block L) (r : BlockRow L) → block_guard r b → actor_of r < actors → mover < actors → k < blocks → Asked mover page o f k (kind r) s → PagesInvariant L pages blocks s → Link actors mover s b f k → MayBeAbove pages blocks (above mover page o f k (kind r)) s
 may actors mover pages blocks page o f k s b r gd lp lm lt out inv l =
     let ok : Allowed mover r b = allowed actors mover pages blocks page o f k s b r gd out inv lt l.phase_is in
-    let fact : Finds mover (s.newest f k) (kind r) b = row_finds actors (s.newest f k) mover b r gd ok l.invariant lp lm l.invariant.home (l.invariant.each (actor_of r) lp) (l.invariant.each mover lm) l.parts.only_poisons (l.parts.never_poison (actor_of r) lp) l.parts.granted l.parts.answered l.parts.apart in
+    let fact : Finds mover (s.newest f k) (kind r) b = row_finds actors (s.newest f k) mover b r gd ok l.invariant lp lm l.invariant.home (l.invariant.each (actor_of r) lp) (l.invariant.each mover lm) l.parts.mover (l.parts.plain (actor_of r) lp) l.parts.ends l.parts.reply in
     above_may actors mover pages blocks page o f k (kind r) s b lt out fact l.phase_is (λ q e lq. l.copy_is q lq e) l.slot_is (kind_inside actors r lp)

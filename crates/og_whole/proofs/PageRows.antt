@@ -6,7 +6,7 @@ use Rattle.og_pages.specs.State.{State as Pages}
 use Rattle.og_pages.specs.Rows.{Row as PageRow, guard as page_guard, apply as page_apply, Walk_send, Walk_answer, Walk_refuse, Walk_fill, Walk_retry, Tlb_forget, Load_hit, Store_hit, Request_send, Fill_load, Fill_store, Request_end, Copy_lose, Victim_put, Victim_free, Notice_send, Move_begin, Notice_refuse, Rearm_serve, Poison_send, Poison_refuse, Poison_collect, Copy_send, Copy_serve, Copy_next, Copy_last, Publish_page, Reclaim_begin, Drop_send_all, Drop_answer, Drop_take, Gather_end, Clean_send, Clean_serve, Frame_free}
 use Rattle.og_pages.specs.Invariant.{Invariant as PagesInvariant}
 use Rattle.og_whole.specs.Kind.{phase_of}
-use Rattle.og_whole.specs.Actors.{is_mover_want}
+use Rattle.og_block.specs.Roles.{is_mover_want}
 use Rattle.og_whole.specs.Events.{is_of_pages}
 use Rattle.og_whole.specs.Link.{Link}
 use Rattle.og_whole.specs.HomeEntry.{home_entry_in, cleans}

@@ -11,7 +11,7 @@ use Rattle.og_slots.proofs.Count.{count_none}
 use Rattle.og_whole.specs.Events.{apply, Runs, start, FlatRun, Reached, World, Event, start_block, memory_after, memory_of}
 use Rattle.og_whole.specs.Link.{Invariant, Linked}
 use Rattle.og_whole.proofs.Kept.{kept}
-use Rattle.og_whole.specs.Actors.{IsApart}
+use Rattle.og_block.specs.Roles.{OwnBit}
 use Rattle.og_whole.specs.Kind.{fresh}
 use Rattle.og_whole.proofs.Accesses.{memory_follows, answered}
 
@@ -26,10 +26,10 @@ line_each actors sharing l q lt = let none : pending actors (block_start sharing
 fresh_each : {L : Type 0} → (actors mover : ℕ) (sharing : Sharing) (l : L) (q : ℕ) → q < actors → Local actors l (fresh sharing mover l) q
 fresh_each actors mover sharing l q lt = let none : pending actors (fresh sharing mover l) q ≡ 0 = count_none actors (λ k. is_for q NoInvalidation) (λ k below. refl) in grind (arith, nat_tests)
 
-start_linked : {L : Type 0} → (actors mover : ℕ) (sharing : Sharing) (blank : L) (memory : ℕ → ℕ → L) (u : Role) (k : ℕ) → mover < actors → IsApart mover sharing → StartRole u → Linked L actors mover (start_line blank memory u k) (start_phase u) (λ q. false) (λ q. false) (λ q. false) (start_block sharing mover blank memory u k)
+start_linked : {L : Type 0} → (actors mover : ℕ) (sharing : Sharing) (blank : L) (memory : ℕ → ℕ → L) (u : Role) (k : ℕ) → mover < actors → OwnBit sharing mover → StartRole u → Linked L actors mover (start_line blank memory u k) (start_phase u) (λ q. false) (λ q. false) (λ q. false) (start_block sharing mover blank memory u k)
 start_linked actors mover sharing blank memory (Mapped page) k lm ap st = record {
   invariant = record { each = line_each actors sharing (memory page k); home = grind arith };
-  parts = record { only_poisons = grind arith; never_poison = λ q lq. grind arith; granted = tt; answered = grind arith; apart = ap };
+  parts = record { mover = grind arith; plain = λ q lq. grind arith; ends = tt; reply = grind arith; bit = ap };
   phase_is = refl;
   want_is = λ q lq ne. refl;
   slot_is = λ q lq ne. refl;
@@ -37,7 +37,7 @@ start_linked actors mover sharing blank memory (Mapped page) k lm ap st = record
 }
 start_linked actors mover sharing blank memory FreeRole k lm ap st = record {
   invariant = record { each = fresh_each actors mover sharing blank; home = grind arith };
-  parts = record { only_poisons = grind arith; never_poison = λ q lq. grind arith; granted = refl; answered = λ e h. grind arith; apart = ap };
+  parts = record { mover = grind arith; plain = λ q lq. grind arith; ends = refl; reply = λ e h. grind arith; bit = ap };
   phase_is = refl;
   want_is = λ q lq ne. refl;
   slot_is = λ q lq ne. refl;
@@ -45,7 +45,7 @@ start_linked actors mover sharing blank memory FreeRole k lm ap st = record {
 }
 start_linked actors mover sharing blank memory u k lm ap st = absurd st
 
-pub starts : {L : Type 0} → (actors mover pages blocks : ℕ) (sharing : Sharing) (blank : L) (page_table : ℕ → ℕ) (role : ℕ → Role) (memory : ℕ → ℕ → L) → mover < actors → IsApart mover sharing → Laid pages page_table role → Invariant L actors mover pages blocks (start sharing mover blank page_table role memory)
+pub starts : {L : Type 0} → (actors mover pages blocks : ℕ) (sharing : Sharing) (blank : L) (page_table : ℕ → ℕ) (role : ℕ → Role) (memory : ℕ → ℕ → L) → mover < actors → OwnBit sharing mover → Laid pages page_table role → Invariant L actors mover pages blocks (start sharing mover blank page_table role memory)
 starts actors mover pages blocks sharing blank page_table role memory lm ap laid = record {
   of_pages = pages_start_invariant pages blocks blank page_table role memory laid;
   link = λ f k lt. start_linked actors mover sharing blank memory (role f) k lm ap (used f (role f) (laid.frames f));

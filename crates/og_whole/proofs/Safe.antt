@@ -39,15 +39,15 @@ module _ {L : Type 0} (actors mover pages blocks : ℕ) (w : World L) (inside : 
   node_clear f k q lt lq ne e =
       let l = inv.link f k lt in
       let un : (y : ℕ) → Unnamed L w.pages f q y k = λ y. (free_unnamed pages blocks w.pages inv.of_pages f e).unnamed q y k in
-      let br = bare actors (w.pages.newest f k) mover q (w.block f k) (dead f k lt e) l.invariant l.parts.granted l.parts.only_poisons inside lq ne in
+      let br = bare actors (w.pages.newest f k) mover q (w.block f k) (dead f k lt e) l.invariant l.parts.ends l.parts.mover inside lq ne in
       let want : (w.block f k).want q ≡ Idle = idle ((w.block f k).want q) (asks_for (w.pages.request q) f k) (l.want_is q lq ne) (asks_none (w.pages.request q) f k (λ y. (un y).request)) in
       let slot : (w.block f k).victim q ≡ Free = slots ((w.block f k).victim q) (w.pages.victim q) f k (l.slot_is q lq ne) (un 0).victim in
-      clear actors (w.pages.newest f k) mover q (w.block f k) (dead f k lt e) l.invariant.home l.parts.granted (l.invariant.each q lq) br want slot
+      clear actors (w.pages.newest f k) mover q (w.block f k) (dead f k lt e) l.invariant.home l.parts.ends (l.invariant.each q lq) br want slot
 
   mover_clear : (f k : ℕ) → k < blocks → w.pages.role f ≡ FreeRole → Clear L (w.block f k) mover
   mover_clear f k lt e =
       let l = inv.link f k lt in
-      clear_mover actors (w.pages.newest f k) mover (w.block f k) (dead f k lt e) l.invariant.home l.parts.granted (l.invariant.each mover inside) l.parts.only_poisons
+      clear_mover actors (w.pages.newest f k) mover (w.block f k) (dead f k lt e) l.invariant.home l.parts.ends (l.invariant.each mover inside) l.parts.mover
 
   pub free_clear : FreeClear L actors mover pages blocks w
   free_clear f k q lt lq e = elim (eq_or q mover) [ inl x ↦ subst (λ (y : ℕ). Clear L (w.block f k) y) (sym x) (mover_clear f k lt e) | inr ne ↦ node_clear f k q lt lq ne e ]

@@ -15,7 +15,7 @@ use Rattle.og_whole.specs.Kind.{kind, Kind, Stores, Fills_store, phase_of, is_id
 use Rattle.og_whole.specs.Events.{guard, World, above, On}
 use Rattle.og_whole.specs.Link.{Invariant, asks_for, stands_for}
 use Rattle.og_whole.specs.Claims.{is_store, StoresLand, PoisonServed}
-use Rattle.og_whole.specs.Actors.{is_poisoning, OnlyPoisons, NeverPoisons, GrantedBy, PoisonAnswered}
+use Rattle.og_block.specs.Roles.{is_poisoning, Mover, Plain, Ends_by, Reply}
 use Rattle.og_whole.proofs.Above.{MayBeAbove}
 use Rattle.og_whole.proofs.Linked.{may}
 
@@ -37,7 +37,7 @@ command_alone pages blocks s f k inv lt mover e = let x = collect_of pages block
 -- ---- the home
 
 -- a PoisonRead never meets Poison or BusyPoison, and not itself as the owner
-pub met_poison_read : {L : Type 0} → (actors : ℕ) (f : L) (mover q : ℕ) (b : Block L) → Local actors f b q → (q ≢ mover → is_poisoning (b.want q) ≡ false) → GrantedBy mover b.entry → PoisonAnswered mover b → b.ask q ≡ PoisonRead → ((o p : ℕ) → b.entry ≢ BusyPoison o p) × ((p : ℕ) → b.entry ≢ PoisonBy p) × (b.entry ≢ Exclusive q)
+pub met_poison_read : {L : Type 0} → (actors : ℕ) (f : L) (mover q : ℕ) (b : Block L) → Local actors f b q → (q ≢ mover → is_poisoning (b.want q) ≡ false) → Ends_by mover b.entry → Reply mover b → b.ask q ≡ PoisonRead → ((o p : ℕ) → b.entry ≢ BusyPoison o p) × ((p : ℕ) → b.entry ≢ PoisonBy p) × (b.entry ≢ Exclusive q)
 met_poison_read actors f mover q b h pl en re e =
     let w : (b.want q ≡ Poisoning) × (q ≡ mover) = grind (arith, nat_tests) in
     ((λ o p x. grind (arith, nat_tests)), (λ p x. poisoned p x w.0 w.1), (λ x. grind (arith, nat_tests)))
@@ -46,7 +46,7 @@ met_poison_read actors f mover q b h pl en re e =
     poisoned p x w e' = let wm : b.want mover ≡ Poisoning = cc in let am : b.ask mover ≡ PoisonRead = cc in grind (arith, nat_tests)
 
 -- a WriteBack never meets Poison
-pub met_write_back : {L : Type 0} → (actors : ℕ) (f : L) (mover q : ℕ) (l : L) (b : Block L) → Home actors f b → Local actors f b q → OnlyPoisons mover b → GrantedBy mover b.entry → b.back q ≡ WriteBack l → (p : ℕ) → b.entry ≢ PoisonBy p
+pub met_write_back : {L : Type 0} → (actors : ℕ) (f : L) (mover q : ℕ) (l : L) (b : Block L) → Home actors f b → Local actors f b q → Mover mover b → Ends_by mover b.entry → b.back q ≡ WriteBack l → (p : ℕ) → b.entry ≢ PoisonBy p
 met_write_back actors f mover q l b home h mv en e p x = grind (arith, nat_tests)
 
 -- ---- one charge, one block
@@ -60,7 +60,7 @@ victim_for v f k g j a c = grind (arith, nat_tests)
 not_is : (x t : Bool) → x ≡ false → x ≡ not t → t ≡ true
 not_is x t a e = grind arith
 
-pub mover_collects : {L : Type 0} → (mover : ℕ) (b : Block L) → OnlyPoisons mover b → is_idle (b.want mover) ≡ false → phase_of mover b ≡ Collecting
+pub mover_collects : {L : Type 0} → (mover : ℕ) (b : Block L) → Mover mover b → is_idle (b.want mover) ≡ false → phase_of mover b ≡ Collecting
 mover_collects mover b mv e = grind arith
 
 -- an actor has something outstanding for one block at most
@@ -71,8 +71,8 @@ one_request actors mover pages blocks w q f k g j inv lq lk lj a c = go (eq_or q
     go (inl e) =
         let x = inv.link f k lk in let y = inv.link g j lj in
         let a' : is_idle ((w.block f k).want mover) ≡ false = cc in let c' : is_idle ((w.block g j).want mover) ≡ false = cc in
-        let u : w.pages.phase f k ≡ Collecting = let h = mover_collects mover (w.block f k) x.parts.only_poisons a' in let i = x.phase_is in cc in
-        let v : w.pages.phase g j ≡ Collecting = let h = mover_collects mover (w.block g j) y.parts.only_poisons c' in let i = y.phase_is in cc in
+        let u : w.pages.phase f k ≡ Collecting = let h = mover_collects mover (w.block f k) x.parts.mover a' in let i = x.phase_is in cc in
+        let v : w.pages.phase g j ≡ Collecting = let h = mover_collects mover (w.block g j) y.parts.mover c' in let i = y.phase_is in cc in
         one_collect pages blocks w.pages f k g j inv.of_pages lk lj u v
     go (inr ne) =
         let x = (inv.link f k lk).want_is q lq ne in let y = (inv.link g j lj).want_is q lq ne in
@@ -135,29 +135,29 @@ request_is (Outstanding y g j) f k e = let a : (g ≡ f) × (j ≡ k) = grind (a
 pub request_of : {L : Type 0} → (actors mover pages blocks : ℕ) (w : World L) (q f k : ℕ) → Invariant L actors mover pages blocks w → q < actors → q ≢ mover → k < blocks → is_idle ((w.block f k).want q) ≡ false → (y : ℕ) × (w.pages.request q ≡ Outstanding y f k)
 request_of actors mover pages blocks w q f k inv lq ne lt e = request_is (w.pages.request q) f k (not_is _ _ e ((inv.link f k lt).want_is q lq ne))
 
-live_idle : {L : Type 0} → (mover : ℕ) (b : Block L) → OnlyPoisons mover b → phase_of mover b ≢ Collecting → b.want mover ≡ Idle
+live_idle : {L : Type 0} → (mover : ℕ) (b : Block L) → Mover mover b → phase_of mover b ≢ Collecting → b.want mover ≡ Idle
 live_idle mover b mv e = grind arith
 
 -- the mover's PoisonRead may be sent
 pub ask_ready : {L : Type 0} → (actors mover pages blocks : ℕ) (w : World L) (page f o k : ℕ) → Invariant L actors mover pages blocks w → k < blocks → w.pages.job ≡ Ask page f o k → block_guard (Send_poison_read mover) (w.block f k)
 ask_ready actors mover pages blocks w page f o k inv lt e =
-    let l = inv.link f k lt in let j = inv.of_pages.jobs in let h = inv.of_pages.phases f k lt in let x = l.phase_is in let mv = l.parts.only_poisons in
+    let l = inv.link f k lt in let j = inv.of_pages.jobs in let h = inv.of_pages.phases f k lt in let x = l.phase_is in let mv = l.parts.mover in
     let c : phase_of mover (w.block f k) ≢ Collecting = grind (arith, nat_tests) in
     (live_idle mover (w.block f k) mv c, mv.0, mv.1)
 
 -- CopyIn meets a block that may be filled
 pub copy_ready : {L : Type 0} → (actors mover pages blocks : ℕ) (w : World L) (page o f k : ℕ) (v : L) → Invariant L actors mover pages blocks w → mover < actors → k < blocks → w.pages.job ≡ Wait page o f k → w.pages.command ≡ CopyIn v → block_guard (Copy_in mover v) (w.block f k)
 copy_ready {L} actors mover pages blocks w page o f k v inv lm lt e c =
-    let l = inv.link f k lt in let j = inv.of_pages.jobs in let h = inv.of_pages.phases f k lt in let x = l.phase_is in let mv = l.parts.only_poisons in
+    let l = inv.link f k lt in let j = inv.of_pages.jobs in let h = inv.of_pages.phases f k lt in let x = l.phase_is in let mv = l.parts.mover in
     let d : phase_of mover (w.block f k) ≡ Dead = grind (arith, nat_tests) in
     let i : (w.block f k).want mover ≡ Idle = live_idle mover (w.block f k) mv (grind arith) in
     let nb : (w.block f k).back mover ≡ NoBack = free_back (w.block f k) mover mv.1 (l.invariant.each mover lm).backs in
-    (dead_entry mover (w.block f k) d l.parts.granted, i, mv.0, nb)
+    (dead_entry mover (w.block f k) d l.parts.ends, i, mv.0, nb)
   where
     free_back : (b : Block L) (q : ℕ) → b.victim q ≡ Free → Backs b q → b.back q ≡ NoBack
     free_back b q v h = grind arith
 
-    dead_entry : (mover : ℕ) (b : Block L) → phase_of mover b ≡ Dead → GrantedBy mover b.entry → b.entry ≡ PoisonBy mover
+    dead_entry : (mover : ℕ) (b : Block L) → phase_of mover b ≡ Dead → Ends_by mover b.entry → b.entry ≡ PoisonBy mover
     dead_entry mover b e en = grind arith
 
 -- ---- stores
@@ -181,7 +181,7 @@ stores_land actors mover pages blocks w inside inv page o f k r g e = store_land
 
 -- ---- what is poisoned
 
-poison_reader : {L : Type 0} → (actors : ℕ) (newest : L) (mover q : ℕ) (b : Block L) → Local actors newest b q → NeverPoisons mover b q → b.ask q ≡ PoisonRead → q ≡ mover
+poison_reader : {L : Type 0} → (actors : ℕ) (newest : L) (mover q : ℕ) (b : Block L) → Local actors newest b q → Plain mover b q → b.ask q ≡ PoisonRead → q ≡ mover
 poison_reader actors newest mover q b h never e = let want : is_poisoning (b.want q) ≡ true = grind arith in grind (arith, nat_tests)
 
 pub poison_served : {L : Type 0} → (actors mover pages blocks : ℕ) (w : World L) → mover < actors → Invariant L actors mover pages blocks w → PoisonServed L actors mover pages blocks w
@@ -189,11 +189,11 @@ poison_served actors mover pages blocks w inside inv = record {
   ask = λ page f o k lt e. ask_ready actors mover pages blocks w page f o k inv lt e;
   poison_read = λ f k q lt lq e.
       let l = inv.link f k lt in
-      let m = met_poison_read actors (w.pages.newest f k) mover q (w.block f k) (l.invariant.each q lq) (l.parts.never_poison q lq) l.parts.granted l.parts.answered e in
-      (poison_reader actors (w.pages.newest f k) mover q (w.block f k) (l.invariant.each q lq) (l.parts.never_poison q lq) e, m.0, m.1, m.2);
+      let m = met_poison_read actors (w.pages.newest f k) mover q (w.block f k) (l.invariant.each q lq) (l.parts.plain q lq) l.parts.ends l.parts.reply e in
+      (poison_reader actors (w.pages.newest f k) mover q (w.block f k) (l.invariant.each q lq) (l.parts.plain q lq) e, m.0, m.1, m.2);
   write_back = λ f k q line lt lq e.
       let l = inv.link f k lt in
-      met_write_back actors (w.pages.newest f k) mover q line (w.block f k) l.invariant.home (l.invariant.each q lq) l.parts.only_poisons l.parts.granted e;
+      met_write_back actors (w.pages.newest f k) mover q line (w.block f k) l.invariant.home (l.invariant.each q lq) l.parts.mover l.parts.ends e;
   copy_in = λ page o f k line lt e c. copy_ready actors mover pages blocks w page o f k line inv inside lt e c;
   request = λ f k q lt lq ne e. request_of actors mover pages blocks w q f k inv lq ne lt e;
 }

@@ -1,5 +1,5 @@
 -- The guards of the example run hold, by computation.
-use Rattle.std.proofs.Common.{ℕ, arith, refl}
+use Rattle.std.proofs.Common.{arith, refl}
 use Rattle.std.proofs.lemmas.Bool.Decides.{nat_tests}
 use Rattle.og_whole.specs.Example.{Happens}
 

@@ -9,7 +9,7 @@ use Rattle.og_pages.specs.Rows.{is_dead}
 use Rattle.og_pages.specs.Run.{Laid}
 use Rattle.og_pages.specs.Invariant.{place}
 use Rattle.og_whole.specs.Kind.{Kind, Stores, Fills_store, kind, has_copy, is_idle}
-use Rattle.og_whole.specs.Actors.{IsApart}
+use Rattle.og_block.specs.Roles.{OwnBit}
 use Rattle.og_whole.specs.Events.{World, Event, On, guard, apply, Runs, start, memory_of, FlatRun, Reached}
 use Rattle.og_whole.specs.Link.{Invariant}
 
@@ -82,15 +82,15 @@ InEachPages L P = (actors mover pages blocks : ℕ) (w : World L) → Reached L 
 
 -- from a start on, the accesses of any events are a run of one flat memory
 abbrev pub AccessesFlat : (L : Type 0) → Type 0
-AccessesFlat L = (actors mover pages blocks : ℕ) (sharing : Sharing) (blank : L) (page_table : ℕ → ℕ) (role : ℕ → Role) (memory : ℕ → ℕ → L) (events : List (Event L)) (end : World L) → mover < actors → IsApart mover sharing → Laid pages page_table role → Runs actors mover pages blocks (start sharing mover blank page_table role memory) events end → FlatRun memory events
+AccessesFlat L = (actors mover pages blocks : ℕ) (sharing : Sharing) (blank : L) (page_table : ℕ → ℕ) (role : ℕ → Role) (memory : ℕ → ℕ → L) (events : List (Event L)) (end : World L) → mover < actors → OwnBit sharing mover → Laid pages page_table role → Runs actors mover pages blocks (start sharing mover blank page_table role memory) events end → FlatRun memory events
 
 -- and the flat memory at the end is what the stores in them have made of it
 abbrev pub MemoryFollows : (L : Type 0) → Type 0
-MemoryFollows L = (actors mover pages blocks : ℕ) (sharing : Sharing) (blank : L) (page_table : ℕ → ℕ) (role : ℕ → Role) (memory : ℕ → ℕ → L) (events : List (Event L)) (end : World L) → mover < actors → IsApart mover sharing → Laid pages page_table role → Runs actors mover pages blocks (start sharing mover blank page_table role memory) events end → end.pages.memory ≡ memory_of events memory
+MemoryFollows L = (actors mover pages blocks : ℕ) (sharing : Sharing) (blank : L) (page_table : ℕ → ℕ) (role : ℕ → Role) (memory : ℕ → ℕ → L) (events : List (Event L)) (end : World L) → mover < actors → OwnBit sharing mover → Laid pages page_table role → Runs actors mover pages blocks (start sharing mover blank page_table role memory) events end → end.pages.memory ≡ memory_of events memory
 
 -- the invariant holds at the start, and each event that may happen keeps it
 abbrev pub Starts : (L : Type 0) → Type 0
-Starts L = (actors mover pages blocks : ℕ) (sharing : Sharing) (blank : L) (page_table : ℕ → ℕ) (role : ℕ → Role) (memory : ℕ → ℕ → L) → mover < actors → IsApart mover sharing → Laid pages page_table role → Invariant L actors mover pages blocks (start sharing mover blank page_table role memory)
+Starts L = (actors mover pages blocks : ℕ) (sharing : Sharing) (blank : L) (page_table : ℕ → ℕ) (role : ℕ → Role) (memory : ℕ → ℕ → L) → mover < actors → OwnBit sharing mover → Laid pages page_table role → Invariant L actors mover pages blocks (start sharing mover blank page_table role memory)
 
 abbrev pub IsKept : (L : Type 0) → Type 0
 IsKept L = (actors mover pages blocks : ℕ) (w : World L) (event : Event L) → mover < actors → guard actors mover pages blocks event w → Invariant L actors mover pages blocks w → Invariant L actors mover pages blocks (apply actors mover event w)

@@ -8,7 +8,7 @@ use Rattle.og_pages.specs.State.{State as Pages, Ask, Collect, Wait, CopyIn, To,
 use Rattle.og_pages.specs.Rows.{Row as PageRow, guard as page_guard, apply as page_apply, Load_hit, Store_hit, Request_send, Fill_load, Fill_store, Request_end, Copy_lose, Victim_put, Victim_free, Poison_send, Poison_refuse, Poison_collect, Copy_serve}
 use Rattle.og_pages.specs.Run.{Laid, start as pages_start}
 use Rattle.og_whole.specs.Kind.{Kind, Loads, Stores, Sends, Fills, Fills_store, Ends, Evicts, Settles, Poisons, Collects, Copies, Inner, kind, fresh}
-use Rattle.og_whole.specs.Actors.{IsApart}
+use Rattle.og_block.specs.Roles.{OwnBit}
 
 pub record World (L : Type 0) : Type 0 where
   pub pages : Pages L
@@ -103,7 +103,7 @@ start sharing mover blank page_table role memory = record { pages = pages_start 
 pub record Reached (L : Type 0) (actors mover pages blocks : ℕ) (w : World L) : Type 0 where
   pub inside : mover < actors
   pub sharing : Sharing
-  pub apart : IsApart mover sharing
+  pub apart : OwnBit sharing mover
   pub blank : L
   pub page_table : ℕ → ℕ
   pub role : ℕ → Role

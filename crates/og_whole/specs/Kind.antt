@@ -1,9 +1,10 @@
 -- What the page layer sees of a block and of the block's rows. Of a block it sees the phase, who has something outstanding
 -- for it, whose victim slot holds it and who has a copy; a row it sees by its kind.
-use Rattle.std.specs.Prelude.{ℕ, Bool, true, false, cond, nat_eq}
+use Rattle.std.specs.Prelude.{◌≡◌, ℕ, Bool, true, false, cond, nat_eq, ◌≢◌}
 use Rattle.og_block.specs.State.{Copy, NoCopy, Want, Idle, Poisoning, Victim, Free, Entry, PoisonBy, Sharing, Block, start}
 use Rattle.og_block.specs.Rows.{Row, Send_read, Send_read_exclusive, Send_upgrade, Load_shared, Load_clean, Load_dirty, Store, Evict, Fill_shared, Again_shared, Fill_clean, Fill_shared_answered, Fill_shared_speculative, Again_speculative, Fill_exclusive, Fill_exclusive_answered, Fill_exclusive_speculative, Fill_upgrade, Fill_upgrade_line, Again_refused, Again_upgrade_refused, Intervention_victim_busy, Write_back_ack, Write_back_busy_ack_seen, Send_poison_read, Poison_collected, Poisoned, Copy_in}
 use Rattle.og_pages.specs.State.{Live, Collecting, Dead, Phase}
+use Rattle.og_pages.specs.Rows.{is_dead}
 
 -- a load that hits; a store that hits; a request goes out; it ends with a copy and a load, or with a copy and a store; it
 -- ends without a copy; a dirty copy goes to the victim slot; the slot is free again; the mover asks to poison the block; it
@@ -117,3 +118,15 @@ newest_after (Stores p line) newest = line
 newest_after (Fills_store p line) newest = line
 newest_after (Copies p line) newest = line
 newest_after d newest = newest
+
+-- ---- what a row of a kind finds in the block, whose newest line is newest
+
+abbrev pub Finds : {L : Type 0} → (mover : ℕ) → (newest : L) → Kind L → Block L → Type 0
+Finds mover newest (Loads p) b = (has_copy (b.copy p) ≡ true) × (p ≢ mover)
+Finds mover newest (Stores p line) b = (has_copy (b.copy p) ≡ true) × (p ≢ mover)
+Finds mover newest (Evicts p) b = (has_copy (b.copy p) ≡ true) × (p ≢ mover)
+Finds mover newest (Settles p) b = (is_taken (b.victim p) ≡ true) × (p ≢ mover)
+Finds mover newest (Fills p) b = (is_dead (phase_of mover b) ≡ false) × (p ≢ mover)
+Finds mover newest (Fills_store p line) b = (is_dead (phase_of mover b) ≡ false) × (p ≢ mover)
+Finds mover newest (Collects p line) b = (line ≡ newest) × (p ≡ mover)
+Finds mover newest d b = Unit {0}

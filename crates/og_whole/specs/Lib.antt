@@ -1,5 +1,4 @@
 pub mod Kind
-pub mod Actors
 pub mod Events
 pub mod Link
 pub mod HomeEntry

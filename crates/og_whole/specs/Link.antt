@@ -5,7 +5,7 @@ use Rattle.og_block.specs.Invariant.{Invariant as BlockInvariant}
 use Rattle.og_pages.specs.State.{State as Pages, Request, NoRequest, Outstanding, VictimSlot, NoVictim, VictimOf, Phase}
 use Rattle.og_pages.specs.Invariant.{Invariant as PagesInvariant}
 use Rattle.og_whole.specs.Kind.{phase_of, is_idle, is_taken, has_copy}
-use Rattle.og_whole.specs.Actors.{Actors}
+use Rattle.og_block.specs.Roles.{Roles}
 use Rattle.og_whole.specs.Events.{World}
 
 abbrev pub asks_for : Request → (frame number : ℕ) → Bool
@@ -20,7 +20,7 @@ stands_for (VictimOf g j) frame number = nat_eq g frame && nat_eq j number
 -- it, and who may have a copy
 pub record Linked (L : Type 0) (actors mover : ℕ) (newest : L) (phase : Phase) (request victim cached : ℕ → Bool) (b : Block L) : Type 0 where
   pub invariant : BlockInvariant actors newest b
-  pub parts : Actors L actors mover b
+  pub parts : Roles actors mover b
   pub phase_is : phase_of mover b ≡ phase
   pub want_is : (q : ℕ) → q < actors → q ≢ mover → is_idle (b.want q) ≡ not (request q)
   pub slot_is : (q : ℕ) → q < actors → q ≢ mover → is_taken (b.victim q) ≡ victim q

@@ -8,7 +8,7 @@ pub returns-clause-page_rows : goal.returns-clause-page_rows
 returns-clause-page_rows g c = λ actors mover pages blocks w row frame number r may not_cleans lt.
     let inv = reached actors mover pages blocks w r in
     let l = inv.link frame number lt in
-    page_entry pages blocks mover w.pages frame number (w.block frame number) row may.0 inv.of_pages lt may.1 l.phase_is l.parts.only_poisons.4 not_cleans
+    page_entry pages blocks mover w.pages frame number (w.block frame number) row may.0 inv.of_pages lt may.1 l.phase_is l.parts.mover.4 not_cleans
 
 pub returns-clause-block_rows : goal.returns-clause-block_rows
 returns-clause-block_rows g c = λ actors mover pages blocks w page other frame number row h may. blank_above mover page other frame number (kind row) w.pages h may.3
