@@ -1,17 +1,17 @@
 -- The keys, numbered one family after another: so messages of different keys are no more than the keys.
-use Rattle.std.proofs.Common.{◌≡◌, ℕ, ◌+◌, ◌*◌, ◌<◌, ◌≤◌, Bool, true, false, cond, arith, ◌≢◌, List, length}
+use Rattle.std.proofs.Common.{◌≡◌, ℕ, ◌+◌, ◌*◌, ◌<◌, ◌≤◌, arith, ◌≢◌, List, length}
 use Rattle.std.proofs.lemmas.Nat.{div-mul-add, mul-add-lt}
-use Rattle.og_block.specs.State.{Block, NoResponse, NoBack}
-use Rattle.og_block.specs.Invariant.{Asks, Backs}
+use Rattle.og_block.specs.State.{Block, NoResponse}
+use Rattle.og_block.specs.Invariant.{Asks}
+use Rattle.og_block.specs.Roles.{Mover}
+use Rattle.og_block.specs.Message.{Key as BlockKey, Request_of, Answer_to, Write_back_of, Owner_of_block, Left_by, Invalidation_of, key_of as block_key}
 use Rattle.og_slots.specs.Flight.{Fits}
 use Rattle.og_slots.proofs.Flight.{fits_coarser}
 use Rattle.og_slots.proofs.Room.{room_for_all}
-use Rattle.og_whole.specs.Kind.{is_taken}
-use Rattle.og_block.specs.Roles.{Mover}
 use Rattle.og_whole.specs.Events.{World}
 use Rattle.og_whole.specs.Link.{Invariant}
-use Rattle.og_whole.specs.Charges.{Slot, At_ask, At_response, At_back, At_intervention, At_revision, At_invalidation, At_command, At_walk, At_drop, At_notice, Key, Ask, Response, Back, Left, Busy, Invalidation, Walk, Drop, Notice, key_of, IsFull, key_count}
-use Rattle.og_whole.proofs.KeysApart.{one_slot}
+use Rattle.og_whole.specs.Messages.{Message, OfBlock, OfJob, OfWalk, OfDrop, OfNotice, InFlight, Key, Ask, Response, Back, Left, Busy, Invalidation, Walk, Drop, Notice, key_in, key_of, key_count}
+use Rattle.og_whole.proofs.KeysApart.{Engaged, engaged_in, taken_node, one_message}
 
 -- the key is one of a machine of this many nodes and frames
 abbrev IsKey : (nodes frames blocks : ℕ) → Key → Type 0
@@ -100,44 +100,36 @@ number_one nodes frames blocks (Invalidation r p) (Invalidation s q) a b e = let
 number_one nodes frames blocks (Busy f k) (Busy g j) a b e = let h = pair_one blocks f k g j a.1 b.1 (omega arith) in let h0 = h.0 in let h1 = h.1 in cc
 number_one nodes frames blocks x y a b e = let i = index_below nodes frames blocks x a in let j = index_below nodes frames blocks y b in absurd (omega arith)
 
--- ---- a full slot's key is one of them
+-- ---- the key of a message in flight is one of them
 
 no_response : {L : Type 0} → (b : Block L) (p : ℕ) → Mover p b → Asks b p → b.response p ≡ NoResponse
-no_response b p only asks = grind arith
-
-no_back : {L : Type 0} → (b : Block L) (p : ℕ) → Mover p b → Backs b p → b.back p ≡ NoBack
-no_back b p only backs = grind arith
+no_response b p mover asks = grind arith
 
 below : (p nodes : ℕ) → p < nodes + 1 → p ≢ nodes → p < nodes
 below p nodes lt ne = omega arith
 
 module _ {L : Type 0} (nodes frames pages blocks : ℕ) (w : World L) (inv : Invariant L (nodes + 1) nodes pages blocks w) where
-  full_is_key : (slot : Slot) → IsFull nodes frames blocks w slot → IsKey nodes frames blocks (key_of nodes w slot)
-  full_is_key (At_ask f k p) full = full.1
-  full_is_key (At_response f k p) full = below p nodes full.1 (λ e.
-      let l = inv.link f k full.0 in let h = no_response (w.block f k) nodes l.parts.mover (l.invariant.each nodes (omega arith)).asks in
-      full.2 (cc))
-  full_is_key (At_back f k p) full = below p nodes full.1 (λ e.
-      let l = inv.link f k full.0 in let h = no_back (w.block f k) nodes l.parts.mover (l.invariant.each nodes (omega arith)).backs in
-      full.2 (cc))
-  full_is_key (At_intervention f k p) full = by (is_taken ((w.block f k).victim p))
-    where
-      by : (taken : Bool) → IsKey nodes frames blocks (cond taken (Left p) (Busy f k))
-      by true = below p nodes full.1 (λ e. let only = (inv.link f k full.0).parts.mover in let i = full.2 in grind arith)
-      by false = (full.3, full.0)
-  full_is_key (At_revision f k) full = (full.2, full.0)
-  full_is_key (At_invalidation f k r p) full = (full.2, below p nodes full.1 (λ e. let only = (inv.link f k full.0).parts.mover in let i = full.3 in grind arith))
-  full_is_key At_command full = omega arith
-  full_is_key (At_walk p) full = full.1
-  full_is_key (At_drop p) full = full.1
-  full_is_key (At_notice f) full = full.1
+  -- none but a request or a reply is the mover's
+  key_of_block : (f k : ℕ) → f < frames → k < blocks → (key : BlockKey) → Engaged (nodes + 1) (w.block f k) key → IsKey nodes frames blocks (key_in f k key)
+  key_of_block f k lf lk (Request_of p) e = e.0
+  key_of_block f k lf lk (Answer_to p) e = below p nodes e.0 (λ same.
+      let l = inv.link f k lk in let h = no_response (w.block f k) nodes l.parts.mover (l.invariant.each nodes (omega arith)).asks in
+      e.2 (cc))
+  key_of_block f k lf lk (Write_back_of p) e = below p nodes e.0 (taken_node nodes frames pages blocks w inv f k p lk e.1)
+  key_of_block f k lf lk (Left_by p) e = below p nodes e.0 (taken_node nodes frames pages blocks w inv f k p lk e.1)
+  key_of_block f k lf lk (Invalidation_of r p) e = (e.0, below p nodes e.1 (λ same. let mover = (inv.link f k lk).parts.mover in let i = mover.3 in e.3 (cc)))
+  key_of_block f k lf lk Owner_of_block e = (lf, lk)
 
-  pub keys_apart : {M : Type 0} → (slot_of : M → Slot) (messages : List M) → Fits slot_of (λ x. IsFull nodes frames blocks w (slot_of x)) messages → Fits (λ x. key_of nodes w (slot_of x)) (λ x. IsFull nodes frames blocks w (slot_of x)) messages
-  keys_apart {M} slot_of messages fits = fits_coarser slot_of (λ x. key_of nodes w (slot_of x)) (λ x. IsFull nodes frames blocks w (slot_of x)) (λ x y a b e. one_slot nodes frames pages blocks w inv (slot_of x) (slot_of y) a b e) messages fits
+  is_key : (x : Message L) → InFlight nodes frames blocks w x → IsKey nodes frames blocks (key_of nodes w x)
+  is_key (OfBlock f k x) s = key_of_block f k s.0 s.1 (block_key (w.block f k) x) (engaged_in nodes frames pages blocks w inv f k s.1 x s.2)
+  is_key (OfJob x) s = omega arith
+  is_key (OfWalk p x) s = s.0
+  is_key (OfDrop p x) s = s.0
+  is_key (OfNotice f x) s = s.0
 
-  pub at_most_keys : {M : Type 0} → (slot_of : M → Slot) (messages : List M) → Fits slot_of (λ x. IsFull nodes frames blocks w (slot_of x)) messages → length messages ≤ key_count nodes frames blocks
-  at_most_keys {M} slot_of messages fits =
-      let numbers : Fits (λ x. number_of nodes frames blocks (key_of nodes w (slot_of x))) (λ x. IsFull nodes frames blocks w (slot_of x)) messages = fits_coarser (λ x. key_of nodes w (slot_of x)) (λ x. number_of nodes frames blocks (key_of nodes w (slot_of x))) (λ x. IsFull nodes frames blocks w (slot_of x))
-      (λ x y a b e. number_one nodes frames blocks (key_of nodes w (slot_of x)) (key_of nodes w (slot_of y)) (full_is_key (slot_of x) a) (full_is_key (slot_of y) b) e) messages (keys_apart slot_of messages fits) in
-      room_for_all (λ x. number_of nodes frames blocks (key_of nodes w (slot_of x))) (λ n. n) (λ j k e. e) (λ x. IsFull nodes frames blocks w (slot_of x)) (key_count nodes frames blocks)
-      (λ x a. number_below nodes frames blocks (key_of nodes w (slot_of x)) (full_is_key (slot_of x) a)) messages numbers
+  pub at_most_keys : (messages : List (Message L)) → Fits (λ x. x) (λ x. InFlight nodes frames blocks w x) messages → length messages ≤ key_count nodes frames blocks
+  at_most_keys messages fits =
+      let numbers : Fits (λ x. number_of nodes frames blocks (key_of nodes w x)) (λ x. InFlight nodes frames blocks w x) messages = fits_coarser (λ x. x) (λ x. number_of nodes frames blocks (key_of nodes w x)) (λ x. InFlight nodes frames blocks w x)
+      (λ x y a b e. one_message nodes frames pages blocks w inv x y a b (number_one nodes frames blocks (key_of nodes w x) (key_of nodes w y) (is_key x a) (is_key y b) e)) messages fits in
+      room_for_all (λ x. number_of nodes frames blocks (key_of nodes w x)) (λ n. n) (λ j k e. e) (λ x. InFlight nodes frames blocks w x) (key_count nodes frames blocks)
+      (λ x a. number_below nodes frames blocks (key_of nodes w x) (is_key x a)) messages numbers

@@ -2,6 +2,6 @@ pub mod Kind
 pub mod Events
 pub mod Link
 pub mod HomeEntry
-pub mod Charges
+pub mod Messages
 pub mod Claims
 pub mod Example

@@ -13,7 +13,7 @@
 
 ghost use Rattle.og_pages.specs.Claims.{FreeUnnamed, TargetUnnamed, OnlyHolders, Served, MoverWaits};
 ghost use Rattle.og_whole.specs.HomeEntry.{EntriesMet, PageRowsKeepEntries, BlockRowsKeepBlank};
-ghost use Rattle.og_whole.specs.Charges.{KeysApart, AtMostKeys};
+ghost use Rattle.og_whole.specs.Messages.{KeysApart, AtMostKeys};
 ghost use Rattle.og_whole.specs.Claims.{InEachWorld, InEachPages, Starts, IsKept, GoesOn, AccessesFlat, MemoryFollows, LinesHeld, StoresLand, WriterAlone, CopiesPlaced, FreeClear, PoisonServed};
 ghost use Rattle.og_whole.specs.Example.{Happens};
 
@@ -72,10 +72,10 @@ pub fn mover_waits_for_something<L>()
 {}
 
 /// Any two messages in flight have different keys, so there are at most as many as keys. The key of an intervention is by the
-/// receiver's victim slot in that very state. `M` is the type of messages.
-pub fn keys_are_distinct<L, M>()
-    ensures apart { KeysApart L M }
-    ensures room { AtMostKeys L M }
+/// receiver's victim slot in that very state.
+pub fn keys_are_distinct<L>()
+    ensures apart { KeysApart L }
+    ensures room { AtMostKeys L }
 {}
 
 /// The laws are not empty: a run with a store, a move, a poison error, a drop, a freed frame and a move back into it happens.
