@@ -28,3 +28,8 @@ pub mod Kept_ends
 pub mod Kept_reply
 pub mod Roles
 pub mod Served
+pub mod Replies
+pub mod Meets
+pub mod Balance
+pub mod Charges
+pub mod Blocks

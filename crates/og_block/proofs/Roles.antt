@@ -1,15 +1,14 @@
 -- Each plays its part from the start on.
-use Rattle.std.proofs.Common.{◌≡◌, ℕ, ◌<◌, true, arith, ◌≢◌, refl, sym, subst, List, [], ◌∷◌}
+use Rattle.std.proofs.Common.{◌≡◌, ℕ, ◌<◌, arith, refl, sym, subst, List, [], ◌∷◌}
 use Rattle.og_block.proofs.All.{kept}
 use Rattle.og_block.proofs.Kept_mover.{mover_kept}
 use Rattle.og_block.proofs.Kept_plain.{plain_kept}
 use Rattle.og_block.proofs.Kept_ends.{ends_kept}
 use Rattle.og_block.proofs.Kept_reply.{reply_kept}
-use Rattle.og_block.proofs.Run.{starts}
 use Rattle.og_block.specs.State.{Sharing, Block, start}
-use Rattle.og_block.specs.Access.{flat_after, flat_end}
+use Rattle.og_block.specs.Access.{flat_after}
 use Rattle.og_block.specs.Rows.{Row, guard, apply, actor_of}
-use Rattle.og_block.specs.Invariant.{Invariant, Local}
+use Rattle.og_block.specs.Invariant.{Invariant}
 use Rattle.og_block.specs.Roles.{Roles, Allowed, OwnBit, Plays}
 use Rattle.og_block.specs.Run.{Runs}
 

@@ -1,18 +1,16 @@
 -- No message is ever met without a row.
-use Rattle.std.proofs.Common.{◌≡◌, ℕ, ◌<◌, Bool, true, false, nat_eq, arith, ◌≢◌, ◌⊎◌, inl, inr, refl}
+use Rattle.std.proofs.Common.{◌≡◌, ℕ, ◌<◌, true, false, nat_eq, arith, ◌≢◌, ◌⊎◌, inl, inr, refl}
 use Rattle.std.proofs.lemmas.Bool.{cases_Bool}
 use Rattle.std.proofs.lemmas.Bool.Decides.{nat_tests}
-use Rattle.og_block.specs.State.{Copy, NoCopy, Shared, Clean, Dirty, Want, Idle, Reading, Writing, Upgrading, Poisoning, Ask, NoAsk, Read, ReadExclusive, Upgrade, SharedReply, SpeculativeReply, ExclusiveReply, UpgradeReply, NegativeAck, PoisonError, PoisonRead, PoisonWait, PoisonReply, Response, NoResponse, SharedResponse, ExclusiveResponse, OwnerAck, Back, NoBack, WriteBack, WriteBackAck, WriteBackBusyAck, Victim, Free, Taken, Busy, Seen, Intervention, NoIntervention, InterveneShared, InterveneExclusive, IntervenePoison, Invalidation, NoInvalidation, Invalidate, InvalidateAck, Entry, Unowned, SharedBy, Exclusive, BusyShared, BusyExclusive, BusyPoison, PoisonBy, Revision, NoRevision, SharingWriteBack, SharingTransfer, DirtyTransfer, PoisonBack, PoisonClean, Sharing, Single, Grouped, Block}
-use Rattle.og_block.specs.Rows.{guard, apply, actor_of, has_exclusive, has_intervention, is_dirty, Read_unowned, Read_shared, Read_by_owner, Read_owned, Read_busy, Read_poison, Read_exclusive_unowned, Read_exclusive_shared, Read_exclusive_by_owner, Read_exclusive_owned, Read_exclusive_busy, Read_exclusive_poison, Upgrade_shared, Upgrade_grouped, Upgrade_refused, Upgrade_poison, Write_back_owner, Write_back_busy_shared, Write_back_busy_exclusive, Write_back_requester, Write_back_busy_poison, Revision_sharing_write_back, Revision_sharing_transfer, Revision_dirty_transfer, Revision_returned, Revision_poison_back, Revision_poison_clean, Poison_read_unowned, Poison_read_shared, Poison_read_owned, Poison_read_busy, Fill_shared, Again_shared, Fill_clean, Fill_shared_answered, Fill_shared_speculative, Again_speculative, Fill_exclusive, Fill_exclusive_answered, Fill_exclusive_speculative, Fill_upgrade, Fill_upgrade_line, Again_refused, Again_upgrade_refused, Poisoned, Poison_collected, Invalidated as Invalidated_row, Acknowledged, Intervention_victim_busy, Intervention_victim_first, Intervention_shared_dirty, Intervention_shared_clean, Intervention_shared_none, Intervention_exclusive_dirty, Intervention_exclusive_clean, Intervention_poison_dirty, Intervention_poison_clean, Write_back_ack, Write_back_busy_ack_seen, Write_back_busy_ack_first}
-use Rattle.og_block.proofs.Alone.{giver_holds}
-use Rattle.og_block.specs.Invariant.{Invariant, Local, Home, Sent, Owned, is_shared, is_holder}
-use Rattle.og_block.specs.Roles.{Roles}
-use Rattle.og_block.specs.Message.{Message, Asked, Answered, Returned, Revised, Intervened, Invalidated, Stands, MeetsRow, MayWait, Served}
+use Rattle.og_block.specs.State.{Copy, NoCopy, Clean, Dirty, Want, Idle, Read, ReadExclusive, Upgrade, PoisonRead, WriteBack, WriteBackBusyAck, Victim, Free, Taken, Busy, Seen, Intervention, NoIntervention, InterveneShared, InterveneExclusive, IntervenePoison, Invalidation, NoInvalidation, Invalidate, InvalidateAck, Entry, Unowned, SharedBy, Exclusive, BusyShared, BusyExclusive, BusyPoison, PoisonBy, Revision, NoRevision, SharingWriteBack, SharingTransfer, DirtyTransfer, PoisonBack, PoisonClean, Sharing, Single, Grouped, Block}
+use Rattle.og_block.specs.Rows.{has_exclusive, has_intervention, Read_unowned, Read_shared, Read_by_owner, Read_owned, Read_busy, Read_poison, Read_exclusive_unowned, Read_exclusive_shared, Read_exclusive_by_owner, Read_exclusive_owned, Read_exclusive_busy, Read_exclusive_poison, Upgrade_shared, Upgrade_grouped, Upgrade_refused, Upgrade_poison, Write_back_owner, Write_back_busy_shared, Write_back_busy_exclusive, Write_back_requester, Write_back_busy_poison, Revision_sharing_write_back, Revision_sharing_transfer, Revision_dirty_transfer, Revision_returned, Revision_poison_back, Revision_poison_clean, Poison_read_unowned, Poison_read_shared, Poison_read_owned, Poison_read_busy, Invalidated as Invalidated_row, Acknowledged, Intervention_victim_busy, Intervention_victim_first, Intervention_shared_dirty, Intervention_shared_clean, Intervention_shared_none, Intervention_exclusive_dirty, Intervention_exclusive_clean, Intervention_poison_dirty, Intervention_poison_clean, Write_back_busy_ack_seen, Write_back_busy_ack_first}
+use Rattle.og_block.specs.Invariant.{Invariant, Local, Home, is_shared, is_holder}
+use Rattle.og_block.specs.Message.{Asked, Returned, Revised, Intervened, Invalidated, MeetsRow, MayWait}
 
 module _ {L : Type 0} where
   -- ---- requests, by the entry
 
-  read : (n q : ℕ) (b : Block L) (e : Entry) → b.entry ≡ e → q < n → b.ask q ≡ Read → MeetsRow n b (Asked q Read)
+  pub read : (n q : ℕ) (b : Block L) (e : Entry) → b.entry ≡ e → q < n → b.ask q ≡ Read → MeetsRow n b (Asked q Read)
   read n q b Unowned e lt a = record { row = Read_unowned q; may = (a, e); inside = lt; taken = λ s. grind (arith, nat_tests) }
   read n q b (SharedBy s) e lt a = record { row = Read_shared q s; may = (a, e); inside = lt; taken = λ s. grind (arith, nat_tests) }
   read n q b (Exclusive o) e lt a = elim (cases_Bool (nat_eq o q)) [ inl same ↦ mine (grind (arith, nat_tests)) | inr other ↦ record { row = Read_owned q o; may = (a, e, grind (arith, nat_tests)); inside = lt; taken = λ s. grind (arith, nat_tests) } ]
@@ -24,7 +22,7 @@ module _ {L : Type 0} where
   read n q b (BusyPoison o p) e lt a = record { row = Read_busy q; may = (a, grind arith); inside = lt; taken = λ s. grind (arith, nat_tests) }
   read n q b (PoisonBy o) e lt a = record { row = Read_poison q o; may = (a, e); inside = lt; taken = λ s. grind (arith, nat_tests) }
 
-  exclusive : (n q : ℕ) (b : Block L) (e : Entry) → b.entry ≡ e → q < n → b.ask q ≡ ReadExclusive → MeetsRow n b (Asked q ReadExclusive)
+  pub exclusive : (n q : ℕ) (b : Block L) (e : Entry) → b.entry ≡ e → q < n → b.ask q ≡ ReadExclusive → MeetsRow n b (Asked q ReadExclusive)
   exclusive n q b Unowned e lt a = record { row = Read_exclusive_unowned q; may = (a, e); inside = lt; taken = λ s. grind (arith, nat_tests) }
   exclusive n q b (SharedBy s) e lt a = record { row = Read_exclusive_shared q s; may = (a, e); inside = lt; taken = λ s. grind (arith, nat_tests) }
   exclusive n q b (Exclusive o) e lt a = elim (cases_Bool (nat_eq o q)) [ inl same ↦ mine (grind (arith, nat_tests)) | inr other ↦ record { row = Read_exclusive_owned q o; may = (a, e, grind (arith, nat_tests)); inside = lt; taken = λ s. grind (arith, nat_tests) } ]
@@ -36,7 +34,7 @@ module _ {L : Type 0} where
   exclusive n q b (BusyPoison o p) e lt a = record { row = Read_exclusive_busy q; may = (a, grind arith); inside = lt; taken = λ s. grind (arith, nat_tests) }
   exclusive n q b (PoisonBy o) e lt a = record { row = Read_exclusive_poison q o; may = (a, e); inside = lt; taken = λ s. grind (arith, nat_tests) }
 
-  upgrade : (n q : ℕ) (b : Block L) (e : Entry) → b.entry ≡ e → b.entry ≢ Exclusive q → q < n → b.ask q ≡ Upgrade → MeetsRow n b (Asked q Upgrade)
+  pub upgrade : (n q : ℕ) (b : Block L) (e : Entry) → b.entry ≡ e → b.entry ≢ Exclusive q → q < n → b.ask q ≡ Upgrade → MeetsRow n b (Asked q Upgrade)
   upgrade n q b (SharedBy s) e ne lt a = elim (cases_Bool (s q)) [ inl is ↦ granted is b.sharing refl | inr not ↦ record { row = Upgrade_refused q; may = (a, grind arith); inside = lt; taken = λ s. grind (arith, nat_tests) } ]
     where
       granted : s q ≡ true → (k : Sharing) → b.sharing ≡ k → MeetsRow n b (Asked q Upgrade)
@@ -45,7 +43,7 @@ module _ {L : Type 0} where
   upgrade n q b (PoisonBy o) e ne lt a = record { row = Upgrade_poison q o; may = (a, e); inside = lt; taken = λ s. grind (arith, nat_tests) }
   upgrade n q b x e ne lt a = record { row = Upgrade_refused q; may = (a, grind (arith, nat_tests)); inside = lt; taken = λ s. grind (arith, nat_tests) }
 
-  poison : (n q : ℕ) (b : Block L) (e : Entry) → b.entry ≡ e → b.entry ≢ Exclusive q → ((o : ℕ) → b.entry ≢ PoisonBy o) → q < n → b.ask q ≡ PoisonRead → MeetsRow n b (Asked q PoisonRead)
+  pub poison : (n q : ℕ) (b : Block L) (e : Entry) → b.entry ≡ e → b.entry ≢ Exclusive q → ((o : ℕ) → b.entry ≢ PoisonBy o) → q < n → b.ask q ≡ PoisonRead → MeetsRow n b (Asked q PoisonRead)
   poison n q b Unowned e ne np lt a = record { row = Poison_read_unowned q; may = (a, e); inside = lt; taken = λ s. grind (arith, nat_tests) }
   poison n q b (SharedBy s) e ne np lt a = record { row = Poison_read_shared q s; may = (a, e); inside = lt; taken = λ s. grind (arith, nat_tests) }
   poison n q b (Exclusive o) e ne np lt a = record { row = Poison_read_owned q o; may = (a, e, λ same. ne (cc)); inside = lt; taken = λ s. grind (arith, nat_tests) }
@@ -54,7 +52,7 @@ module _ {L : Type 0} where
 
   -- ---- a write-back, by the entry: the mover has none
 
-  write_back : (n q m : ℕ) (l : L) (b : Block L) (e : Entry) → b.entry ≡ e → q < n → b.back q ≡ WriteBack l → is_holder b.entry b.revision q ≡ true → ((p : ℕ) → b.entry ≡ PoisonBy p → p ≢ q) → MeetsRow n b (Returned q (WriteBack l))
+  pub write_back : (n q m : ℕ) (l : L) (b : Block L) (e : Entry) → b.entry ≡ e → q < n → b.back q ≡ WriteBack l → is_holder b.entry b.revision q ≡ true → ((p : ℕ) → b.entry ≡ PoisonBy p → p ≢ q) → MeetsRow n b (Returned q (WriteBack l))
   write_back n q m l b (Exclusive o) e lt k h np = let same : o ≡ q = grind (arith, nat_tests) in record { row = Write_back_owner q l; may = (k, cc); inside = lt; taken = λ s. grind (arith, nat_tests) }
   write_back n q m l b (BusyShared o p) e lt k h np = let same : o ≡ q = grind (arith, nat_tests) in record { row = Write_back_busy_shared q p l; may = (k, cc); inside = lt; taken = λ s. grind (arith, nat_tests) }
   write_back n q m l b (BusyPoison o p) e lt k h np = let same : o ≡ q = grind (arith, nat_tests) in record { row = Write_back_busy_poison q p l; may = (k, cc); inside = lt; taken = λ s. grind (arith, nat_tests) }
@@ -68,14 +66,14 @@ module _ {L : Type 0} where
       requester ne same = record { row = Write_back_requester q o l; may = (k, cc, ne); inside = lt; taken = λ s. grind (arith, nat_tests) }
   write_back n q m l b x e lt k h np = absurd (grind (arith, nat_tests))
 
-  busy_ack : (n q : ℕ) (b : Block L) (v : Victim) → b.victim q ≡ v → (v ≡ Taken) ⊎ (v ≡ Seen) → q < n → b.back q ≡ WriteBackBusyAck → MeetsRow n b (Returned q WriteBackBusyAck)
+  pub busy_ack : (n q : ℕ) (b : Block L) (v : Victim) → b.victim q ≡ v → (v ≡ Taken) ⊎ (v ≡ Seen) → q < n → b.back q ≡ WriteBackBusyAck → MeetsRow n b (Returned q WriteBackBusyAck)
   busy_ack n q b Taken e c lt k = record { row = Write_back_busy_ack_first q; may = (k, e); inside = lt; taken = λ s. grind (arith, nat_tests) }
   busy_ack n q b Seen e c lt k = record { row = Write_back_busy_ack_seen q; may = (k, e); inside = lt; taken = λ s. grind (arith, nat_tests) }
   busy_ack n q b x e c lt k = absurd (grind arith)
 
   -- ---- a revision, by the entry
 
-  revision : (n : ℕ) (f : L) (b : Block L) (v : Revision L) (e : Entry) → b.revision ≡ v → b.entry ≡ e → v ≢ NoRevision → Home n f b → MeetsRow n b (Revised v)
+  pub revision : (n : ℕ) (f : L) (b : Block L) (v : Revision L) (e : Entry) → b.revision ≡ v → b.entry ≡ e → v ≢ NoRevision → Home n f b → MeetsRow n b (Revised v)
   revision n f b (SharingWriteBack s l) (BusyShared o p) ev ee there home = let same : s ≡ o = grind arith in record { row = Revision_sharing_write_back o p l; may = (cc, ee); inside = grind arith; taken = λ s. grind (arith, nat_tests) }
   revision n f b (SharingTransfer s) (BusyShared o p) ev ee there home = let same : s ≡ o = grind arith in record { row = Revision_sharing_transfer o p; may = (cc, ee); inside = grind arith; taken = λ s. grind (arith, nat_tests) }
   revision n f b (DirtyTransfer s) (BusyExclusive o p false) ev ee there home = let same : s ≡ o = grind arith in record { row = Revision_dirty_transfer o p; may = (cc, ee); inside = grind arith; taken = λ s. grind (arith, nat_tests) }
@@ -89,7 +87,7 @@ module _ {L : Type 0} where
   pub not_writable : (n : ℕ) (f : L) (q r : ℕ) (b : Block L) → Invariant n f b → q < n → b.invalidation q ≡ Invalidate r → has_exclusive (b.copy q) ≡ false
   not_writable n f q r b inv lt e = let h : Local n f b q = inv.each q lt in grind (arith, nat_tests)
 
-  invalidation : (n : ℕ) (f : L) (q : ℕ) (b : Block L) (i : Invalidation) → Invariant n f b → q < n → b.invalidation q ≡ i → i ≢ NoInvalidation → MeetsRow n b (Invalidated q i)
+  pub invalidation : (n : ℕ) (f : L) (q : ℕ) (b : Block L) (i : Invalidation) → Invariant n f b → q < n → b.invalidation q ≡ i → i ≢ NoInvalidation → MeetsRow n b (Invalidated q i)
   invalidation n f q b NoInvalidation inv lt e there = absurd (there refl)
   invalidation n f q b (Invalidate r) inv lt e there = record { row = Invalidated_row q r; may = (e, not_writable n f q r b inv lt e); inside = lt; taken = λ s. grind (arith, nat_tests) }
   invalidation n f q b (InvalidateAck r) inv lt e there = record { row = Acknowledged q r; may = e; inside = lt; taken = λ s. grind (arith, nat_tests) }
@@ -109,7 +107,7 @@ module _ {L : Type 0} where
   by_copy n q b (IntervenePoison r) c ei ec lt there sh v w = record { row = Intervention_poison_clean q r; may = (ei, v, w, grind arith); inside = lt; taken = λ s. grind (arith, nat_tests) }
   by_copy n q b i c ei ec lt there sh v w = absurd (grind arith)
 
-  intervention : (n : ℕ) (f : L) (q : ℕ) (b : Block L) (i : Intervention) (v : Victim) (w : Want) → Local n f b q → q < n → b.intervention q ≡ i → i ≢ NoIntervention → b.victim q ≡ v → b.want q ≡ w → MeetsRow n b (Intervened q i) ⊎ MayWait b (Intervened q i)
+  pub intervention : (n : ℕ) (f : L) (q : ℕ) (b : Block L) (i : Intervention) (v : Victim) (w : Want) → Local n f b q → q < n → b.intervention q ≡ i → i ≢ NoIntervention → b.victim q ≡ v → b.want q ≡ w → MeetsRow n b (Intervened q i) ⊎ MayWait b (Intervened q i)
   intervention n f q b i Free Idle h lt ei there ev ew = inl (by_copy n q b i (b.copy q) ei refl lt there (not_shared n f q b h (is_there i ei there) ev ew) ev ew)
     where
       is_there : (i : Intervention) → b.intervention q ≡ i → i ≢ NoIntervention → has_intervention (b.intervention q) ≡ true

@@ -1,6 +1,7 @@
 -- The messages of one block, in flight or held; the keys under which they are charged; and what it means that a message
 -- has its row.
-use Rattle.std.specs.Prelude.{◌≡◌, ℕ, ◌+◌, ◌*◌, ◌<◌, Bool, true, false, ◌≢◌, ◌⊎◌}
+use Rattle.std.specs.Prelude.{◌≡◌, ℕ, ◌+◌, ◌*◌, ◌<◌, ◌≤◌, Bool, true, false, ◌≢◌, ◌⊎◌, List, length}
+use Rattle.og_slots.specs.Flight.{Fits}
 use Rattle.og_block.specs.State.{Idle, Ask, NoAsk, SpeculativeReply, ExclusiveReply, UpgradeReply, PoisonWait, PoisonReply, Response, NoResponse, Back, NoBack, Victim, Free, Intervention, NoIntervention, Invalidation, NoInvalidation, Invalidate, InvalidateAck, Revision, NoRevision, Block}
 use Rattle.og_block.specs.Rows.{Row, guard, apply, actor_of}
 
@@ -78,6 +79,6 @@ module _ {L : Type 0} where
   abbrev pub Served : ℕ → Block L → Type 0
   Served n b = (m : Message L) → Stands n b m → MeetsRow n b m ⊎ MayWait b m
 
-  -- one message for a key
-  abbrev pub OneForKey : ℕ → Block L → Type 0
-  OneForKey n b = (x y : Message L) → Stands n b x → Stands n b y → key_of b x ≡ key_of b y → x ≡ y
+  -- different messages have different keys, and there are at most five for each actor and one for the home
+  abbrev pub DistinctCharges : ℕ → Block L → Type 0
+  DistinctCharges n b = (ms : List (Message L)) → Fits (λ m. m) (Stands n b) ms → Fits (key_of b) (Stands n b) ms × (length ms ≤ 5 * n + 1)

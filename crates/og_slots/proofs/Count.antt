@@ -1,6 +1,6 @@
 -- How many of the first n pass a test.
-use Rattle.std.proofs.Common.{◌≡◌, ℕ, zero, suc, ◌+◌, ◌<◌, Bool, true, false, cond, arith, ◌≢◌, inl, inr, ap₂, refl}
-use Rattle.std.proofs.lemmas.Bool.{cases_eq as eq_or}
+use Rattle.std.proofs.Common.{◌≡◌, ℕ, zero, suc, ◌+◌, ◌<◌, ◌≤◌, Bool, true, false, cond, arith, ◌≢◌, inl, inr, ap₂, refl}
+use Rattle.std.proofs.lemmas.Bool.{cases_eq as eq_or, cases_Bool}
 use Rattle.og_slots.specs.Count.{count}
 
 pub count_same : (n : ℕ) (f g : ℕ → Bool) → ((k : ℕ) → k < n → f k ≡ g k) → count n f ≡ count n g
@@ -30,3 +30,11 @@ count_less (suc n) f g p lt a b h = elim (eq_or p n) [ inl e ↦ here e | inr ne
 
     there : p ≢ n → count n f ≡ count n g + 1 → cond (f n) 1 0 + count n f ≡ cond (g n) 1 0 + count n g + 1
     there ne r = let at : f n ≡ g n = h n (λ e. ne (cc)) in grind arith
+
+pub count_most : (n : ℕ) (f : ℕ → Bool) → count n f ≤ n
+count_most zero f = omega arith
+count_most (suc n) f = let r : count n f ≤ n = count_most n f in grind arith
+
+-- none passes where the count is 0
+pub none_counted : (n : ℕ) (f : ℕ → Bool) (k : ℕ) → count n f ≡ 0 → k < n → f k ≡ false
+none_counted n f k is lt = elim (cases_Bool (f k)) [ inl passes ↦ absurd (omega (arith, count_some n f k lt passes)) | inr other ↦ other ]

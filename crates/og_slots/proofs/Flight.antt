@@ -1,6 +1,6 @@
 -- What a list of messages keeps when one is taken or sent.
 use Rattle.std.proofs.Common.{◌≡◌, ℕ, zero, suc, ◌≢◌, List, [], ◌∷◌, ◌++◌, Some, slice_get, sym, refl, remove, subst}
-use Rattle.og_slots.specs.Flight.{Apart, Fits}
+use Rattle.og_slots.specs.Flight.{Apart, Fits, AllApart}
 
 pub apart_other : {M : Type 0} → {K : Type 0} → (key : M → K) (k : K) (P : M → Type 0) → ((x : M) → P x → key x ≢ k) → (ms : List M) → Fits key P ms → Apart key k ms
 apart_other key k P h [] fits = tt
@@ -67,3 +67,25 @@ fits_coarser {M} key charge P h (m ∷ ms) fits = (fits.0, apart ms fits.1 fits.
     apart : (ns : List M) → Apart key (key m) ns → Fits key P ns → Apart charge (charge m) ns
     apart [] a f = tt
     apart (x ∷ ns) a f = (λ e. a.0 (h x m f.0 fits.0 e), apart ns a.1 f.2)
+
+apart_append : {M : Type 0} → {K : Type 0} → (key : M → K) (k : K) (ms xs : List M) → Apart key k ms → Apart key k xs → Apart key k (ms ++ xs)
+apart_append key k [] xs a b = b
+apart_append key k (m ∷ ms) xs a b = (a.0, apart_append key k ms xs a.1 b)
+
+head_apart : {M : Type 0} → {K : Type 0} → (key : M → K) (m : M) (xs ms : List M) → AllApart key xs (m ∷ ms) → Apart key (key m) xs
+head_apart key m [] ms a = tt
+head_apart key m (x ∷ xs) ms a = (λ e. a.0.0 (sym e), head_apart key m xs ms a.1)
+
+tail_apart : {M : Type 0} → {K : Type 0} → (key : M → K) (m : M) (xs ms : List M) → AllApart key xs (m ∷ ms) → AllApart key xs ms
+tail_apart key m [] ms a = tt
+tail_apart key m (x ∷ xs) ms a = (a.0.1, tail_apart key m xs ms a.1)
+
+-- many letters at once
+pub fits_append : {M : Type 0} → {K : Type 0} → (key : M → K) (P : M → Type 0) (ms xs : List M) → Fits key P ms → Fits key P xs → AllApart key xs ms → Fits key P (ms ++ xs)
+fits_append key P [] xs f g a = g
+fits_append key P (m ∷ ms) xs f g a = (f.0, apart_append key (key m) ms xs f.1 (head_apart key m xs ms a), fits_append key P ms xs f.2 g (tail_apart key m xs ms a))
+
+-- the same as `fits_take`, of std's word for a list without its i-th element
+pub fits_remove : {M : Type 0} → {K : Type 0} → (key : M → K) (P : M → Type 0) (x : M) (ms : List M) (i : ℕ) → Fits key P ms → slice_get ms i ≡ Some x →
+    P x × Apart key (key x) (remove ms i) × Fits key P (remove ms i)
+fits_remove {M} {K} key P x ms i fits e = subst (λ (ns : List M). P x × Apart key (key x) ns × Fits key P ns) (sym (remove_is ms i)) (fits_take key P x ms i fits e)
