@@ -7,7 +7,7 @@ use Rattle.og_block.specs.Roles.{Mover}
 use Rattle.og_block.specs.Message.{Key as BlockKey, Request_of, Answer_to, Write_back_of, Owner_of_block, Left_by, Invalidation_of, key_of as block_key}
 use Rattle.og_slots.specs.Flight.{Fits}
 use Rattle.og_slots.proofs.Flight.{fits_coarser}
-use Rattle.og_slots.proofs.Room.{room_for_all}
+use Rattle.og_slots.proofs.Room.{room_for}
 use Rattle.og_whole.specs.Events.{World}
 use Rattle.og_whole.specs.Link.{Invariant}
 use Rattle.og_whole.specs.Messages.{Message, OfBlock, OfJob, OfWalk, OfDrop, OfNotice, InFlight, Key, Ask, Response, Back, Left, Busy, Invalidation, Walk, Drop, Notice, key_in, key_of, key_count}
@@ -131,5 +131,4 @@ module _ {L : Type 0} (nodes frames pages blocks : ℕ) (w : World L) (inv : Inv
   at_most_keys messages fits =
       let numbers : Fits (λ x. number_of nodes frames blocks (key_of nodes w x)) (λ x. InFlight nodes frames blocks w x) messages = fits_coarser (λ x. x) (λ x. number_of nodes frames blocks (key_of nodes w x)) (λ x. InFlight nodes frames blocks w x)
       (λ x y a b e. one_message nodes frames pages blocks w inv x y a b (number_one nodes frames blocks (key_of nodes w x) (key_of nodes w y) (is_key x a) (is_key y b) e)) messages fits in
-      room_for_all (λ x. number_of nodes frames blocks (key_of nodes w x)) (λ n. n) (λ j k e. e) (λ x. InFlight nodes frames blocks w x) (key_count nodes frames blocks)
-      (λ x a. number_below nodes frames blocks (key_of nodes w x) (is_key x a)) messages numbers
+      room_for (λ x. number_of nodes frames blocks (key_of nodes w x)) (λ x. InFlight nodes frames blocks w x) (key_count nodes frames blocks) (λ x a. number_below nodes frames blocks (key_of nodes w x) (is_key x a)) messages numbers

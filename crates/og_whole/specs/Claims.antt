@@ -4,6 +4,7 @@ use Rattle.og_block.specs.State.{Sharing, Block, NoCopy, NoAsk, PoisonRead, NoRe
 use Rattle.og_block.specs.Rows.{Row as BlockRow, guard as block_guard, Send_poison_read, Copy_in}
 use Rattle.og_block.specs.Run.{OneWriter}
 use Rattle.og_block.specs.Held.{Held}
+use Rattle.og_block.specs.Message.{Served as ServedInBlock}
 use Rattle.og_pages.specs.State.{State as Pages, Ask, Wait, CopyIn, Role, Free as FreeRole, Outstanding}
 use Rattle.og_pages.specs.Rows.{is_dead}
 use Rattle.og_pages.specs.Run.{Laid}
@@ -69,6 +70,10 @@ pub record PoisonServed (L : Type 0) (actors mover pages blocks : ℕ) (w : Worl
   pub copy_in : (page old frame number : ℕ) (line : L) → number < blocks → w.pages.job ≡ Wait page old frame number → w.pages.command ≡ CopyIn line → block_guard (Copy_in mover line) (w.block frame number)
   -- whoever has something outstanding for a block has its one request for that block
   pub request : (frame number q : ℕ) → number < blocks → q < actors → q ≢ mover → is_idle ((w.block frame number).want q) ≡ false → (page : ℕ) × (w.pages.request q ≡ Outstanding page frame number)
+
+-- each message of a block meets a row of the block, or waits for the other parts of its request, or is held
+abbrev pub BlocksServed : (L : Type 0) → (actors mover pages blocks : ℕ) → World L → Type 0
+BlocksServed L actors mover pages blocks w = (frame number : ℕ) → number < blocks → ServedInBlock actors (w.block frame number)
 
 -- ---- laws
 

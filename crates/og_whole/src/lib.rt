@@ -14,7 +14,7 @@
 ghost use Rattle.og_pages.specs.Claims.{FreeUnnamed, TargetUnnamed, OnlyHolders, Served, MoverWaits};
 ghost use Rattle.og_whole.specs.HomeEntry.{EntriesMet, PageRowsKeepEntries, BlockRowsKeepBlank};
 ghost use Rattle.og_whole.specs.Messages.{KeysApart, AtMostKeys};
-ghost use Rattle.og_whole.specs.Claims.{InEachWorld, InEachPages, Starts, IsKept, GoesOn, AccessesFlat, MemoryFollows, LinesHeld, StoresLand, WriterAlone, CopiesPlaced, FreeClear, PoisonServed};
+ghost use Rattle.og_whole.specs.Claims.{InEachWorld, InEachPages, Starts, IsKept, GoesOn, AccessesFlat, MemoryFollows, LinesHeld, StoresLand, WriterAlone, CopiesPlaced, FreeClear, PoisonServed, BlocksServed};
 ghost use Rattle.og_whole.specs.Example.{Happens};
 
 /// The invariant of the whole holds at the start, and each event that may happen keeps it. Events that go on from
@@ -52,11 +52,14 @@ pub fn free_frames_are_unnamed<L>()
 {}
 
 /// Each message of the mover's table, and of the nodes' and homes' part in it, meets a row that may be taken: a cleaning finds
-/// every block poisoned and leaves it Unowned, a copy comes in at an Unowned block, a poisoning meets no poisoned block.
+/// every block poisoned and leaves it Unowned, a copy comes in at an Unowned block, a poisoning meets no poisoned block. Each
+/// message of a block meets a row of that block, or waits for the other parts of its request, or is an intervention that is
+/// held while its node has a request out.
 pub fn messages_meet_rows<L>()
     ensures served { InEachPages L Served }
     ensures entries { InEachWorld L EntriesMet }
     ensures poison { InEachWorld L PoisonServed }
+    ensures blocks { InEachWorld L BlocksServed }
 {}
 
 /// The entry that a home has is the block's, but in a blank frame, whose blocks are Unowned at their home: no row of the page

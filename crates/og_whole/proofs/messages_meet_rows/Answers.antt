@@ -1,7 +1,7 @@
 use Rattle.og_pages.proofs.Safe.{served}
 use Rattle.og_whole.proofs.Runs.{reached}
 use Rattle.og_whole.proofs.HomeEntries.{entries_met}
-use Rattle.og_whole.proofs.Served.{poison_served}
+use Rattle.og_whole.proofs.Served.{poison_served, blocks_served}
 use Rattle.og_whole.proofs.messages_meet_rows.Goals as goal
 
 pub returns-clause-served : goal.returns-clause-served
@@ -12,3 +12,6 @@ returns-clause-entries g c = λ actors mover pages blocks w r. entries_met actor
 
 pub returns-clause-poison : goal.returns-clause-poison
 returns-clause-poison g c = λ actors mover pages blocks w r. poison_served actors mover pages blocks w r.inside (reached actors mover pages blocks w r)
+
+pub returns-clause-blocks : goal.returns-clause-blocks
+returns-clause-blocks g c = λ actors mover pages blocks w r. blocks_served actors mover pages blocks w r.inside (reached actors mover pages blocks w r)
