@@ -13,7 +13,9 @@ pub mod Accesses
 pub mod Runs
 pub mod Safe
 pub mod HomeEntries
+pub mod SeenRequester
 pub mod Served
+pub mod Meets
 pub mod KeysApart
 pub mod KeyCount
 pub mod Story

@@ -14,8 +14,7 @@ use Rattle.og_slots.proofs.Count.{count_some}
 use Rattle.og_whole.specs.Kind.{kind, Kind, Stores, Fills_store, phase_of, is_idle, is_taken}
 use Rattle.og_whole.specs.Events.{guard, World, above, On}
 use Rattle.og_whole.specs.Link.{Invariant, asks_for, stands_for}
-use Rattle.og_block.proofs.Meets.{served as block_served}
-use Rattle.og_whole.specs.Claims.{BlocksServed, is_store, StoresLand, PoisonServed}
+use Rattle.og_whole.specs.Claims.{is_store, StoresLand, PoisonServed}
 use Rattle.og_block.specs.Roles.{is_poisoning, Mover, Plain, Ends_by, Reply}
 use Rattle.og_whole.proofs.Above.{MayBeAbove}
 use Rattle.og_whole.proofs.Linked.{may}
@@ -198,6 +197,3 @@ poison_served actors mover pages blocks w inside inv = record {
   copy_in = λ page o f k line lt e c. copy_ready actors mover pages blocks w page o f k line inv inside lt e c;
   request = λ f k q lt lq ne e. request_of actors mover pages blocks w q f k inv lq ne lt e;
 }
-
-pub blocks_served : {L : Type 0} → (actors mover pages blocks : ℕ) (w : World L) → mover < actors → Invariant L actors mover pages blocks w → BlocksServed L actors mover pages blocks w
-blocks_served actors mover pages blocks w inside inv f k lt = let l = inv.link f k lt in block_served actors (w.pages.newest f k) mover (w.block f k) l.invariant l.parts inside

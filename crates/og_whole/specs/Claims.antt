@@ -1,10 +1,10 @@
 -- What is claimed of each world that events lead to.
-use Rattle.std.specs.Prelude.{◌≡◌, ℕ, ◌<◌, Bool, true, false, ◌≢◌, List}
+use Rattle.std.specs.Prelude.{◌≡◌, ℕ, ◌<◌, Bool, true, false, ◌≢◌, ◌⊎◌, List}
 use Rattle.og_block.specs.State.{Sharing, Block, NoCopy, NoAsk, PoisonRead, NoResponse, NoBack, WriteBack, Free, NoIntervention, NoInvalidation, NoRevision, Exclusive, BusyPoison, PoisonBy}
-use Rattle.og_block.specs.Rows.{Row as BlockRow, guard as block_guard, Send_poison_read, Copy_in}
+use Rattle.og_block.specs.Rows.{Row as BlockRow, guard as block_guard, apply as block_apply, Send_poison_read, Copy_in}
 use Rattle.og_block.specs.Run.{OneWriter}
 use Rattle.og_block.specs.Held.{Held}
-use Rattle.og_block.specs.Message.{Served as ServedInBlock}
+use Rattle.og_block.specs.Message.{Message as BlockMessage, Stands, MayWait}
 use Rattle.og_pages.specs.State.{State as Pages, Ask, Wait, CopyIn, Role, Free as FreeRole, Outstanding}
 use Rattle.og_pages.specs.Rows.{is_dead}
 use Rattle.og_pages.specs.Run.{Laid}
@@ -71,9 +71,17 @@ pub record PoisonServed (L : Type 0) (actors mover pages blocks : ℕ) (w : Worl
   -- whoever has something outstanding for a block has its one request for that block
   pub request : (frame number q : ℕ) → number < blocks → q < actors → q ≢ mover → is_idle ((w.block frame number).want q) ≡ false → (page : ℕ) × (w.pages.request q ≡ Outstanding page frame number)
 
--- each message of a block meets a row of the block, or waits for the other parts of its request, or is held
+-- an event may happen now that takes the message of the block from its place
+pub record MeetsEvent (L : Type 0) (actors mover pages blocks : ℕ) (w : World L) (frame number : ℕ) (m : BlockMessage L) : Type 0 where
+  pub page : ℕ
+  pub other : ℕ
+  pub row : BlockRow L
+  pub may : guard actors mover pages blocks (On page other frame number row) w
+  pub taken : ¬ Stands actors (block_apply actors row (w.block frame number)) m
+
+-- each message of a block meets an event, or waits for the other parts of its request, or is held while its node has a request
 abbrev pub BlocksServed : (L : Type 0) → (actors mover pages blocks : ℕ) → World L → Type 0
-BlocksServed L actors mover pages blocks w = (frame number : ℕ) → number < blocks → ServedInBlock actors (w.block frame number)
+BlocksServed L actors mover pages blocks w = (frame number : ℕ) (m : BlockMessage L) → number < blocks → Stands actors (w.block frame number) m → MeetsEvent L actors mover pages blocks w frame number m ⊎ MayWait (w.block frame number) m
 
 -- ---- laws
 

@@ -130,3 +130,14 @@ Finds mover newest (Fills p) b = (is_dead (phase_of mover b) ≡ false) × (p �
 Finds mover newest (Fills_store p line) b = (is_dead (phase_of mover b) ≡ false) × (p ≢ mover)
 Finds mover newest (Collects p line) b = (line ≡ newest) × (p ≡ mover)
 Finds mover newest d b = Unit {0}
+
+-- an act of a node or of the mover, or a copy, which the page layer begins; every other row takes a message of the block, or
+-- throws a clean copy out
+abbrev pub is_act : {L : Type 0} → Kind L → Bool
+is_act (Loads p) = true
+is_act (Stores p line) = true
+is_act (Sends p) = true
+is_act (Evicts p) = true
+is_act (Poisons p) = true
+is_act (Copies p line) = true
+is_act d = false

@@ -53,8 +53,8 @@ pub fn free_frames_are_unnamed<L>()
 
 /// Each message of the mover's table, and of the nodes' and homes' part in it, meets a row that may be taken: a cleaning finds
 /// every block poisoned and leaves it Unowned, a copy comes in at an Unowned block, a poisoning meets no poisoned block. Each
-/// message of a block meets a row of that block, or waits for the other parts of its request, or is an intervention that is
-/// held while its node has a request out.
+/// message of a block meets an event that takes it, or waits for the other parts of its request, or is an intervention that
+/// is held while its node has a request out.
 pub fn messages_meet_rows<L>()
     ensures served { InEachPages L Served }
     ensures entries { InEachWorld L EntriesMet }

@@ -1,7 +1,8 @@
 use Rattle.og_pages.proofs.Safe.{served}
 use Rattle.og_whole.proofs.Runs.{reached}
 use Rattle.og_whole.proofs.HomeEntries.{entries_met}
-use Rattle.og_whole.proofs.Served.{poison_served, blocks_served}
+use Rattle.og_whole.proofs.Served.{poison_served}
+use Rattle.og_whole.proofs.Meets.{blocks_served}
 use Rattle.og_whole.proofs.messages_meet_rows.Goals as goal
 
 pub returns-clause-served : goal.returns-clause-served
