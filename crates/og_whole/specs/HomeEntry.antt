@@ -8,7 +8,7 @@ use Rattle.og_pages.specs.Invariant.{is_cleaned}
 use Rattle.og_block.specs.Rows.{Row as BlockRow}
 use Rattle.og_whole.specs.Events.{World, Page, On, guard, apply, Reached}
 
--- the frame's blocks are blank at its home: it is free, the target of a move, or cleaned
+-- the frame is blank at its home: free, the target of a move, or cleaned. A block of it that is the mover's is Unowned there
 abbrev pub is_blank : {L : Type 0} → Role → Job L → Command L → (frame : ℕ) → Bool
 is_blank Free job sent frame = true
 is_blank (Target page) job sent frame = true

@@ -62,8 +62,9 @@ pub fn messages_meet_rows<L>()
     ensures blocks { InEachWorld L BlocksServed }
 {}
 
-/// The entry that a home has is the block's, but in a blank frame, whose blocks are Unowned at their home: no row of the page
-/// layer changes an entry but a cleaning, and no row of a block changes which frames are blank.
+/// The entry that a home has is the block's, but where the mover has poisoned the block of a frame that is blank now: there it
+/// is Unowned. No row of the page layer alone changes an entry at a home but a cleaning, and no row of a block makes a frame
+/// blank or ends its being so.
 pub fn home_entries_follow<L>()
     ensures page_rows { PageRowsKeepEntries L }
     ensures block_rows { BlockRowsKeepBlank L }
