@@ -2,7 +2,7 @@
 -- A row names all that it reads. It may be taken where its guard holds (`guard`), and then does what `apply` says.
 -- Where a table makes one event do two things, as to fill and then to answer a held intervention, it is two rows, one
 -- after the other; where a table's event changes nothing of this block, as to hold an intervention, it is no row.
--- Guards may be weaker than a table's: the laws then speak of more runs.
+-- A guard may be weaker than its table: the laws then speak of more runs.
 use Rattle.std.specs.Prelude.{◌≡◌, ℕ, ◌+◌, Bool, true, false, cond, not, nat_eq, ◌≢◌}
 use Rattle.og_block.specs.State.{Copy, NoCopy, Shared, Clean, Dirty, Want, Idle, Reading, Writing, Upgrading, Poisoning, NoAsk, Read, ReadExclusive, Upgrade, SharedReply, SpeculativeReply, ExclusiveReply, UpgradeReply, NegativeAck, PoisonError, PoisonRead, PoisonWait, PoisonReply, Response, NoResponse, SharedResponse, ExclusiveResponse, OwnerAck, NoBack, WriteBack, WriteBackAck, WriteBackBusyAck, Free, Taken, Busy, Seen, Intervention, NoIntervention, InterveneShared, InterveneExclusive, IntervenePoison, NoInvalidation, Invalidate, InvalidateAck, Entry, Unowned, SharedBy, Exclusive, BusyShared, BusyExclusive, BusyPoison, PoisonBy, NoRevision, SharingWriteBack, SharingTransfer, DirtyTransfer, PoisonBack, PoisonClean, Sharing, Single, Grouped, Block, put, count, others, is_same}
 
