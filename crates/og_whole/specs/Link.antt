@@ -19,11 +19,17 @@ stands_for (VictimOf g j) frame number = nat_eq g frame && nat_eq j number
 -- a block, and what the page layer has of it: its newest line, its phase, whose request is for it, whose victim slot holds
 -- it, and who may have a copy
 pub record Linked (L : Type 0) (actors mover : ℕ) (newest : L) (phase : Phase) (request victim cached : ℕ → Bool) (b : Block L) : Type 0 where
+  -- the block keeps its own invariant, with the page layer's newest line as its memory cell
   pub invariant : BlockInvariant actors newest b
+  -- the mover only poisons and copies, and a node never does
   pub parts : Roles actors mover b
+  -- the mover's job knows the block's phase: so a move meets no block that another move has poisoned
   pub phase_is : phase_of mover b ≡ phase
+  -- a node has something outstanding for the block exactly where its one request is for it: so no two blocks answer one node
   pub want_is : (q : ℕ) → q < actors → q ≢ mover → is_idle (b.want q) ≡ not (request q)
+  -- a node's one victim slot holds the block exactly where the block says so: so a reclaim waits for the write-back
   pub slot_is : (q : ℕ) → q < actors → q ≢ mover → is_taken (b.victim q) ≡ victim q
+  -- a copy is one of which the page layer knows: so it is at a holder, of a block that isn't dead
   pub copy_is : (q : ℕ) → q < actors → has_copy (b.copy q) ≡ true → cached q ≡ true
 
 abbrev pub Link : {L : Type 0} → (actors mover : ℕ) → Pages L → Block L → (frame number : ℕ) → Type 0
