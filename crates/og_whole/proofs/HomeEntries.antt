@@ -1,10 +1,10 @@
 -- The entry that each home has, where the mover's messages meet it.
-use Rattle.std.proofs.Common.{◌≡◌, ℕ, ◌<◌, false, arith}
+use Rattle.std.proofs.Common.{◌≡◌, ℕ, ◌<◌, false, arith, true, refl}
 use Rattle.std.proofs.lemmas.Bool.Decides.{nat_tests}
 use Rattle.og_block.specs.State.{Unowned, PoisonBy, Block}
-use Rattle.og_pages.specs.State.{CleanFrame, State as Pages, Free as FreeRole, Wait, Cleaning, CopyIn, FrameClean, Outstanding, Collecting, Dead}
+use Rattle.og_pages.specs.State.{CleanFrame, State as Pages, Wait, Cleaning, CopyIn, FrameClean, Outstanding, Collecting, Dead, Live, Phase}
 use Rattle.og_pages.specs.Invariant.{Invariant as PagesInvariant, Requests, Gathering}
-use Rattle.og_whole.specs.Link.{Invariant}
+use Rattle.og_whole.specs.Link.{Invariant, is_targeted}
 use Rattle.og_block.specs.Roles.{Ends_by}
 use Rattle.og_whole.specs.Events.{World, above, after_above, Asked}
 use Rattle.og_whole.specs.HomeEntry.{is_blank, home_entry_at, EntriesMet}
@@ -61,19 +61,27 @@ blank_above mover page o f k (Collects p l) s g out = grind (arith, nat_tests)
 blank_above mover page o f k (Copies p v) s g out = grind (arith, nat_tests)
 blank_above mover page o f k (Inner) s g out = grind (arith, nat_tests)
 
-free_entry : {L : Type 0} → (actors mover pages blocks : ℕ) (w : World L) (f k : ℕ) → Invariant L actors mover pages blocks w → k < blocks → w.pages.role f ≡ FreeRole → home_entry_at w f k ≡ Unowned
-free_entry actors mover pages blocks w f k inv lt e =
-    let h = inv.of_pages.phases f k lt in
-    let l = inv.link f k lt in
-    let d : phase_of mover (w.block f k) ≡ Dead = let x = l.phase_is in grind arith in
-    let i : (w.block f k).entry ≡ PoisonBy mover = dead_is mover (w.block f k) d l.parts.ends in grind arith
+-- each block of a blank frame is Unowned at its home: a dead one since it is the mover's, a live one since nobody has asked for it
+blank_entry : {L : Type 0} → (actors mover pages blocks : ℕ) (w : World L) (f k : ℕ) → Invariant L actors mover pages blocks w → k < blocks → is_blank (w.pages.role f) w.pages.job w.pages.command f ≡ true → home_entry_at w f k ≡ Unowned
+blank_entry {L} actors mover pages blocks w f k inv lt blank = by (w.pages.phase f k) refl
+  where
+    target : w.pages.phase f k ≡ Live → is_targeted (w.pages.role f) ≡ true
+    target e = let h = inv.of_pages.phases f k lt in grind arith
+
+    by : (p : Phase) → w.pages.phase f k ≡ p → home_entry_at w f k ≡ Unowned
+    by Dead e =
+        let l = inv.link f k lt in
+        let d : phase_of mover (w.block f k) ≡ Dead = let x = l.phase_is in cc in
+        let i : (w.block f k).entry ≡ PoisonBy mover = dead_is mover (w.block f k) d l.parts.ends in grind arith
+    by Live e = let u : (w.block f k).entry ≡ Unowned = inv.untouched f k lt (target e) e in grind arith
+    by Collecting e = let n = collect_not_blank pages blocks w.pages f k inv.of_pages lt e in absurd (cc)
 
 pub entries_met : {L : Type 0} → (actors mover pages blocks : ℕ) (w : World L) → Invariant L actors mover pages blocks w → EntriesMet L actors mover pages blocks w
 entries_met actors mover pages blocks w inv = record {
   clean_finds = λ f k lt e c. clean_finds actors mover pages blocks w f k inv lt e c;
   clean_leaves = λ f k lt e c. clean_leaves actors mover pages blocks w f k inv lt e c;
   copy_finds = λ page o f k v lt e c. copy_finds actors mover pages blocks w page o f k v inv lt e c;
-  free_is = λ f k lt e. free_entry actors mover pages blocks w f k inv lt e;
+  blank_is = λ f k lt blank. blank_entry actors mover pages blocks w f k inv lt blank;
   request_meets = λ p y f k e. request_not_blank pages blocks w.pages p y f k inv.of_pages e;
   poison_meets = λ f k lt e. collect_not_blank pages blocks w.pages f k inv.of_pages lt e;
 }

@@ -8,6 +8,8 @@ pub mod SeenFinds
 pub mod Above
 pub mod Linked
 pub mod PageRows
+pub mod SeenUnowned
+pub mod Untouched
 pub mod Kept
 pub mod Accesses
 pub mod Runs

@@ -42,7 +42,7 @@ kind_inside actors r lt = grind arith
 nat_same : (x : ℕ) → nat_eq x x ≡ true
 nat_same x = grind (arith, nat_tests)
 
-here_is : {A : Type 0} (f k : ℕ) (y w : A) → cond (nat_eq f f) (cond (nat_eq k k) y w) w ≡ y
+pub here_is : {A : Type 0} (f k : ℕ) (y w : A) → cond (nat_eq f f) (cond (nat_eq k k) y w) w ≡ y
 here_is f k y w = rw (nat_same f, nat_same k) refl
 
 -- from the face of the row, the link before and the page layer's side
@@ -106,7 +106,7 @@ same {L} actors mover pages blocks page o f k s b r g lp lm lt out inv l = recor
         let y = copy_above actors mover page o f k (kind r) s b out fact l.slot_is ac f k q in cc
 
 -- a block's row keeps the link of every other block
-other : {A : Type 0} (f k g j : ℕ) (x w z : A) → (g ≡ f → j ≢ k) → z ≡ cond (nat_eq g f) (cond (nat_eq j k) x w) w → z ≡ w
+pub other : {A : Type 0} (f k g j : ℕ) (x w z : A) → (g ≡ f → j ≢ k) → z ≡ cond (nat_eq g f) (cond (nat_eq j k) x w) w → z ≡ w
 other f k g j x w z ne e = by (nat_eq g f) (nat_eq j k) refl refl e
   where
     by : (t u : Bool) → nat_eq g f ≡ t → nat_eq j k ≡ u → z ≡ cond t (cond u x w) w → z ≡ w
@@ -136,6 +136,14 @@ others {L} actors mover pages blocks page o f k s b r gd lp lm lt out inv l g j 
 
     ac : Inside actors (kind r)
     ac = kind_inside actors r lp
+
+-- what the page layer does to the phase of its block, and to that of every other block
+pub phase_here : {L : Type 0} → (actors mover pages blocks page o f k : ℕ) (s : Pages L) (b : Block L) (r : BlockRow L) → block_guard r b → actor_of r < actors → mover < actors → k < blocks → Asked mover page o f k (kind r) s → PagesInvariant L pages blocks s → Link actors mover s b f k →
+    (g j : ℕ) → (after_above (above mover page o f k (kind r)) s).phase g j ≡ cond (nat_eq g f) (cond (nat_eq j k) (phase_after mover (kind r) (s.phase g j)) (s.phase g j)) (s.phase g j)
+phase_here actors mover pages blocks page o f k s b r gd lp lm lt out inv l g j =
+    let ok : Allowed mover r b = allowed actors mover pages blocks page o f k s b r gd out inv lt l.phase_is in
+    let finds : Finds mover (s.newest f k) (kind r) b = row_finds actors (s.newest f k) mover b r gd ok l.invariant lp lm l.invariant.home (l.invariant.each (actor_of r) lp) (l.invariant.each mover lm) l.parts.mover (l.parts.plain (actor_of r) lp) l.parts.ends l.parts.reply in
+    phase_above actors mover page o f k (kind r) s b out finds l.slot_is (kind_inside actors r lp) g j
 
 -- and the page layer's row may be taken
 pub may : {L : Type 0} → (actors mover pages blocks page o f k : ℕ) (s : Pages L) (b : Block L) (r : BlockRow L) → block_guard r b → actor_of r < actors → mover < actors → k < blocks → Asked mover page o f k (kind r) s → PagesInvariant L pages blocks s → Link actors mover s b f k → MayBeAbove pages blocks (above mover page o f k (kind r)) s

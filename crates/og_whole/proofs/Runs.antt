@@ -1,5 +1,5 @@
 -- The invariant of the whole holds at the start and after every run.
-use Rattle.std.proofs.Common.{◌≡◌, ℕ, ◌<◌, false, arith, refl, subst, List, [], ◌∷◌, sym, ◌++◌}
+use Rattle.std.proofs.Common.{◌≡◌, ℕ, ◌<◌, false, arith, refl, subst, List, [], ◌∷◌, sym, ◌++◌, true}
 use Rattle.std.proofs.lemmas.Bool.Decides.{nat_tests}
 use Rattle.og_block.specs.State.{start as block_start, NoInvalidation, Sharing}
 use Rattle.og_block.specs.Invariant.{Local}
@@ -9,7 +9,7 @@ use Rattle.og_pages.proofs.Runs.{starts as pages_start_invariant}
 use Rattle.og_pages.specs.State.{Free as FreeRole, Role, Mapped}
 use Rattle.og_slots.proofs.Count.{count_none}
 use Rattle.og_whole.specs.Events.{apply, Runs, start, FlatRun, Reached, World, Event, start_block, memory_after, memory_of}
-use Rattle.og_whole.specs.Link.{Invariant, Linked}
+use Rattle.og_whole.specs.Link.{Invariant, Linked, is_targeted}
 use Rattle.og_whole.proofs.Kept.{kept}
 use Rattle.og_block.specs.Roles.{OwnBit}
 use Rattle.og_whole.specs.Kind.{fresh}
@@ -49,8 +49,12 @@ pub starts : {L : Type 0} → (actors mover pages blocks : ℕ) (sharing : Shari
 starts actors mover pages blocks sharing blank page_table role memory lm ap laid = record {
   of_pages = pages_start_invariant pages blocks blank page_table role memory laid;
   link = λ f k lt. start_linked actors mover sharing blank memory (role f) k lm ap (used f (role f) (laid.frames f));
+  untouched = λ f k lt target live. absurd (no_target f (role f) (laid.frames f) target);
 }
   where
+    no_target : (f : ℕ) (u : Role) → Laid_by pages page_table f u → is_targeted u ≡ true → ⊥
+    no_target f u h e = grind arith
+
     used : (f : ℕ) (u : Role) → Laid_by pages page_table f u → StartRole u
     used f FreeRole h = tt
     used f (Mapped page) h = tt

@@ -8,7 +8,7 @@ use Rattle.og_pages.specs.Invariant.{is_cleaned}
 use Rattle.og_block.specs.Rows.{Row as BlockRow}
 use Rattle.og_whole.specs.Events.{World, Page, On, guard, apply, Reached}
 
--- the frame is blank at its home: free, the target of a move, or cleaned. A block of it that is the mover's is Unowned there
+-- the frame is blank at its home: free, the target of a move, or cleaned
 abbrev pub is_blank : {L : Type 0} → Role → Job L → Command L → (frame : ℕ) → Bool
 is_blank Free job sent frame = true
 is_blank (Target page) job sent frame = true
@@ -18,6 +18,7 @@ is_blank (Mapped page) job sent frame = false
 abbrev pub is_blank_in : {L : Type 0} → Pages L → (frame : ℕ) → Bool
 is_blank_in s frame = is_blank (s.role frame) s.job s.command frame
 
+-- a block that is the mover's in the layer of blocks is Unowned at the home of a blank frame
 abbrev pub home_entry : Bool → Entry → Entry
 home_entry true (PoisonBy mover) = Unowned
 home_entry blank entry = entry
@@ -39,8 +40,8 @@ pub record EntriesMet (L : Type 0) (actors mover pages blocks : ℕ) (w : World 
   pub clean_leaves : (frame number : ℕ) → number < blocks → w.pages.job ≡ Cleaning frame → w.pages.command ≡ FrameClean → home_entry_at w frame number ≡ Unowned
   -- a copy comes in at an Unowned block
   pub copy_finds : (page old frame number : ℕ) (line : L) → number < blocks → w.pages.job ≡ Wait page old frame number → w.pages.command ≡ CopyIn line → home_entry_at w frame number ≡ Unowned
-  -- a free frame's blocks are Unowned at their home
-  pub free_is : (frame number : ℕ) → number < blocks → w.pages.role frame ≡ Free → home_entry_at w frame number ≡ Unowned
+  -- each block of a blank frame is Unowned at its home
+  pub blank_is : (frame number : ℕ) → number < blocks → is_blank_in w.pages frame ≡ true → home_entry_at w frame number ≡ Unowned
   -- a request, and the mover's poisoning, meet the block's own entry: their frame isn't blank
   pub request_meets : (node page frame number : ℕ) → w.pages.request node ≡ Outstanding page frame number → is_blank_in w.pages frame ≡ false
   pub poison_meets : (frame number : ℕ) → number < blocks → w.pages.phase frame number ≡ Collecting → is_blank_in w.pages frame ≡ false

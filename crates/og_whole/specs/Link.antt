@@ -1,8 +1,8 @@
 -- The invariant of the whole: the page layer's, each block's, and that the page layer sees of each block what there is.
 use Rattle.std.specs.Prelude.{◌≡◌, ℕ, ◌<◌, Bool, true, false, not, ◌&&◌, nat_eq, ◌≢◌}
-use Rattle.og_block.specs.State.{Block}
+use Rattle.og_block.specs.State.{Block, Unowned}
 use Rattle.og_block.specs.Invariant.{Invariant as BlockInvariant}
-use Rattle.og_pages.specs.State.{State as Pages, Request, NoRequest, Outstanding, VictimSlot, NoVictim, VictimOf, Phase}
+use Rattle.og_pages.specs.State.{State as Pages, Request, NoRequest, Outstanding, VictimSlot, NoVictim, VictimOf, Phase, Live, Role, Target}
 use Rattle.og_pages.specs.Invariant.{Invariant as PagesInvariant}
 use Rattle.og_whole.specs.Kind.{phase_of, is_idle, is_taken, has_copy}
 use Rattle.og_block.specs.Roles.{Roles}
@@ -35,6 +35,15 @@ pub record Linked (L : Type 0) (actors mover : ℕ) (newest : L) (phase : Phase)
 abbrev pub Link : {L : Type 0} → (actors mover : ℕ) → Pages L → Block L → (frame number : ℕ) → Type 0
 Link {L} actors mover s b frame number = Linked L actors mover (s.newest frame number) (s.phase frame number) (λ q. asks_for (s.request q) frame number) (λ q. stands_for (s.victim q) frame number) (s.cached frame number) b
 
+abbrev pub is_targeted : Role → Bool
+is_targeted (Target page) = true
+is_targeted role = false
+
+-- a block that was copied into the target of a move is Unowned until the page is published: nobody can have asked for it
+abbrev pub IsUntouched : {L : Type 0} → Pages L → Block L → (frame number : ℕ) → Type 0
+IsUntouched s b frame number = is_targeted (s.role frame) ≡ true → s.phase frame number ≡ Live → b.entry ≡ Unowned
+
 pub record Invariant (L : Type 0) (actors mover pages blocks : ℕ) (w : World L) : Type 0 where
   pub of_pages : PagesInvariant L pages blocks w.pages
   pub link : (frame number : ℕ) → number < blocks → Link actors mover w.pages (w.block frame number) frame number
+  pub untouched : (frame number : ℕ) → number < blocks → IsUntouched w.pages (w.block frame number) frame number

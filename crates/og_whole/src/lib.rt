@@ -51,21 +51,21 @@ pub fn free_frames_are_unnamed<L>()
     ensures holders { InEachPages L OnlyHolders }
 {}
 
-/// Each message of the mover's table, and of the nodes' and homes' part in it, meets a row that may be taken: a cleaning finds
-/// every block poisoned and leaves it Unowned, a copy comes in at an Unowned block, a poisoning meets no poisoned block. Each
-/// message of a block meets an event that takes it, or waits for the other parts of its request, or is an intervention that
-/// is held while its node has a request out.
+/// Each message of the mover's table, and of the nodes' and homes' part in it, meets a row that may be taken, and a
+/// poisoning meets no poisoned block. Each message of a block meets an event that takes it, or waits for the other parts of its
+/// request, or is an intervention that is held while its node has a request out.
 pub fn messages_meet_rows<L>()
     ensures served { InEachPages L Served }
-    ensures entries { InEachWorld L EntriesMet }
     ensures poison { InEachWorld L PoisonServed }
     ensures blocks { InEachWorld L BlocksServed }
 {}
 
-/// The entry that a home has is the block's, but where the mover has poisoned the block of a frame that is blank now: there it
-/// is Unowned. No row of the page layer alone changes an entry at a home but a cleaning, and no row of a block makes a frame
-/// blank or ends its being so.
+/// The entry that a home has is the block's, but in a frame that is blank (free, a target, or cleaned): there each block is
+/// Unowned. A cleaning finds every block of its frame poisoned and leaves it Unowned, and a copy comes in at an Unowned block.
+/// No row of the page layer alone changes an entry at a home but a cleaning, and no row of a block makes a frame blank or ends
+/// its being so.
 pub fn home_entries_follow<L>()
+    ensures met { InEachWorld L EntriesMet }
     ensures page_rows { PageRowsKeepEntries L }
     ensures block_rows { BlockRowsKeepBlank L }
 {}

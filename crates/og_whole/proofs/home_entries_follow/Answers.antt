@@ -1,8 +1,11 @@
 use Rattle.og_whole.specs.Kind.{kind}
 use Rattle.og_whole.proofs.Runs.{reached}
 use Rattle.og_whole.proofs.PageRows.{page_entry}
-use Rattle.og_whole.proofs.HomeEntries.{blank_above}
+use Rattle.og_whole.proofs.HomeEntries.{blank_above, entries_met}
 use Rattle.og_whole.proofs.home_entries_follow.Goals as goal
+
+pub returns-clause-met : goal.returns-clause-met
+returns-clause-met g c = λ actors mover pages blocks w r. entries_met actors mover pages blocks w (reached actors mover pages blocks w r)
 
 pub returns-clause-page_rows : goal.returns-clause-page_rows
 returns-clause-page_rows g c = λ actors mover pages blocks w row frame number r may not_cleans lt.
