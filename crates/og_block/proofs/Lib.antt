@@ -33,3 +33,5 @@ pub mod Meets
 pub mod Balance
 pub mod Charges
 pub mod Blocks
+pub mod Kept_handed
+pub mod Races

@@ -7,6 +7,7 @@ use Rattle.og_block.specs.Access.{FlatRun, flat_end}
 use Rattle.og_block.specs.Held.{Held}
 use Rattle.og_block.specs.Message.{Served, DistinctCharges}
 use Rattle.og_block.specs.Balance.{Balanced, Finds_ready}
+use Rattle.og_block.specs.Races.{Races}
 use Rattle.og_block.specs.Roles.{OwnBit, Plays}
 use Rattle.og_block.specs.Run.{Step, Reaches, OneWriter, Runs_all, FlatRun_all, flat_end_all}
 
@@ -33,6 +34,10 @@ MessagesBalance L = (n : ℕ) (sharing : Sharing) (memory : L) (rows : List (Row
 -- each message finds what its table's row asks for
 abbrev pub MessagesFindReady : (L : Type 0) → Type 0
 MessagesFindReady L = (n : ℕ) (sharing : Sharing) (memory : L) (rows : List (Row L)) (b : Block L) → Reaches n sharing memory rows b → (q : ℕ) → q < n → Finds_ready n b q
+
+-- while a block is between two states, the races stand as the tables' rows suppose
+abbrev pub RacesStand : (L : Type 0) → Type 0
+RacesStand L = (n : ℕ) (sharing : Sharing) (memory : L) (rows : List (Row L)) (b : Block L) → Reaches n sharing memory rows b → Races n (flat_end memory rows) b
 
 -- no message is ever met without a row, where one actor m is the mover and the others are nodes
 abbrev pub MessagesAreServed : (L : Type 0) → Type 0

@@ -37,9 +37,9 @@ pub data Row (L : Type 0) : Type 0 where
   Read_by_owner : (p : ℕ) → Row L
   -- exclusive to another: it is asked, and p gets the memory line meanwhile
   Read_owned : (p : ℕ) (o : ℕ) → Row L
-  -- busy
+  -- busy: a negative acknowledgement
   Read_busy : (p : ℕ) → Row L
-  -- poisoned
+  -- poisoned: a poison error
   Read_poison : (p : ℕ) (o : ℕ) → Row L
   -- ---- The home: an exclusive read of p
   -- unowned: p becomes the owner
@@ -50,18 +50,18 @@ pub data Row (L : Type 0) : Type 0 where
   Read_exclusive_by_owner : (p : ℕ) → Row L
   -- exclusive to another: it is asked, and p gets the memory line meanwhile
   Read_exclusive_owned : (p : ℕ) (o : ℕ) → Row L
-  -- busy
+  -- busy: a negative acknowledgement
   Read_exclusive_busy : (p : ℕ) → Row L
-  -- poisoned
+  -- poisoned: a poison error
   Read_exclusive_poison : (p : ℕ) (o : ℕ) → Row L
   -- ---- The home: an upgrade of p
   -- shared with p: the others are invalidated, and p keeps its line
   Upgrade_shared : (p : ℕ) (s : ℕ → Bool) → Row L
   -- where a bit names a group, it does not show that p has its copy still: so p gets the line, as for an exclusive read
   Upgrade_grouped : (p : ℕ) (s : ℕ → Bool) → Row L
-  -- shared without p, unowned, exclusive to another, or busy
+  -- shared without p, unowned, exclusive to another, or busy: a negative acknowledgement
   Upgrade_refused : (p : ℕ) → Row L
-  -- poisoned
+  -- poisoned: a poison error
   Upgrade_poison : (p : ℕ) (o : ℕ) → Row L
   -- ---- The home: a write-back of p
   -- exclusive to p: unowned from now on
@@ -70,7 +70,7 @@ pub data Row (L : Type 0) : Type 0 where
   Write_back_busy_shared : (p : ℕ) (r : ℕ) (l : L) → Row L
   -- p was asked to give the block to r: likewise
   Write_back_busy_exclusive : (p : ℕ) (r : ℕ) (l : L) → Row L
-  -- p got the block from o, whose message to the home is still on its way
+  -- p got the block from o, whose message to the home is still on its way: the line has returned
   Write_back_requester : (p : ℕ) (o : ℕ) (l : L) → Row L
   -- p was asked to give the block up to the mover r: the write-back is taken for its answer
   Write_back_busy_poison : (p : ℕ) (r : ℕ) (l : L) → Row L
@@ -79,24 +79,25 @@ pub data Row (L : Type 0) : Type 0 where
   Revision_sharing_write_back : (o : ℕ) (r : ℕ) (l : L) → Row L
   -- o had a clean copy or none
   Revision_sharing_transfer : (o : ℕ) (r : ℕ) → Row L
-  -- o gave the block to r
+  -- o gave the block to r, which is the owner now
   Revision_dirty_transfer : (o : ℕ) (r : ℕ) → Row L
-  -- o gave the block to r, which has written it back since
+  -- o gave the block to r, which has written it back since: nobody has it
   Revision_returned : (o : ℕ) (r : ℕ) → Row L
   -- o had a dirty copy, and gave it up
   Revision_poison_back : (o : ℕ) (r : ℕ) (l : L) → Row L
   -- o had a clean copy or none, and has none now
   Revision_poison_clean : (o : ℕ) (r : ℕ) → Row L
   -- ---- The home: a poison read of the mover p, and the copy that it puts in at the end
-  -- unowned
+  -- unowned: the mover gets the line
   Poison_read_unowned : (p : ℕ) → Row L
-  -- shared: each sharer is invalidated
+  -- shared: each sharer is invalidated, and the mover gets the line with their number
   Poison_read_shared : (p : ℕ) (s : ℕ → Bool) → Row L
   -- exclusive: the owner is asked, and the reply waits for it
   Poison_read_owned : (p : ℕ) (o : ℕ) → Row L
-  -- busy
+  -- busy: a negative acknowledgement
   Poison_read_busy : (p : ℕ) → Row L
-  -- the block is born again, as a block of another page, with the line v that the mover p brings
+  -- the block is born again, as a block of another page, with the line v that the mover p brings. In the machine the frame was
+  -- cleaned before, so its entry says unowned by then
   Copy_in : (p : ℕ) (v : L) → Row L
   -- ---- The requester p: the parts that it waits for are there, and its request is over
   -- a read, a shared reply

@@ -76,7 +76,8 @@ pub data Invalidation : Type 0 where
   Invalidate : (requester : ℕ) → Invalidation
   InvalidateAck : (requester : ℕ) → Invalidation
 
--- the home's directory entry. Busy: the owner was asked, and hasn't been heard of.
+-- the home's directory entry. Busy: the owner was asked, and hasn't been heard of. Where the block is poisoned, or will be,
+-- the requester is named, which a real entry leaves out, since it is always the mover.
 -- `returned`: the requester has filled, and its write-back has overtaken the owner's message to the home
 pub data Entry : Type 0 where
   Unowned : Entry

@@ -9,7 +9,7 @@
 //! function is a law, its contract, with an empty body. `L` is the type of a line; no row looks inside one.
 #![tactic(auto)]
 
-ghost use Rattle.og_block.specs.Laws.{AccessesAreFlat, WriterIsAlone, HeldIsFlat, ChargesDiffer, MessagesBalance, MessagesFindReady, MessagesAreServed, AllAccessesAreFlat, AllAreHeld};
+ghost use Rattle.og_block.specs.Laws.{AccessesAreFlat, WriterIsAlone, HeldIsFlat, ChargesDiffer, MessagesBalance, MessagesFindReady, MessagesAreServed, RacesStand, AllAccessesAreFlat, AllAreHeld};
 
 /// Every load, and every atomic's and conditional's old line, is that of one memory cell, and the cell
 /// is what the writes in their order make: hits, fills from the home, and fills by the owner's answer.
@@ -43,6 +43,12 @@ pub fn messages_find_ready<L>()
 /// victim slots and what they wait for, interventions and those who are asked: each side equals the other.
 pub fn messages_balance<L>()
     ensures { MessagesBalance L }
+{}
+
+/// A block that was given away is on its way to its requester, or there, or has come back; one that came
+/// back early is nobody's; an invalidation is for a node that waits for it; an upgrade of a sharer has its copy.
+pub fn races_stand<L>()
+    ensures { RacesStand L }
 {}
 
 /// No two messages of the block are charged to one key, and there are at most five for each actor and one more.
