@@ -1,5 +1,5 @@
 -- The outside: files with names, and a sink that holds what was written.
-use Rattle.std.specs.Prelude.{◌≡◌, ℕ, ◌+◌, ◌-◌, ◌^◌, ◌<◌, ◌≤◌, min, List, [], ◌∷◌, ◌++◌, length, take, Option, None, Some, IfSome, IsSomeAnd, ◌⊎◌, cond}
+use Rattle.std.specs.Prelude.{◌≡◌, ℕ, ◌+◌, ◌-◌, ◌^◌, ◌<◌, ◌≤◌, min, List, [], ◌∷◌, ◌++◌, length, take, Option, None, Some, IfSome, IsSomeAnd, ◌⊎◌, cond, map, String, string_bytes}
 use Rattle.std.specs.Str.{bytes_eq}
 
 -- ------------------------------------------------------------------------------ files
@@ -47,3 +47,7 @@ Rises old new = min (old + 1) (2 ^ 64 - 1) ≤ new
 -- a count is as before, and doesn't stand at 2^64 - 1
 abbrev pub IsAsBefore : ℕ → ℕ → Type 0
 IsAsBefore old new = (new ≡ old) × (new < 2 ^ 64 - 1)
+
+-- the bytes of the names
+abbrev pub texts : {A : Type 0} → List (String A) → List (List ℕ)
+texts names = map (λ s. string_bytes s) names
