@@ -94,6 +94,12 @@ impl Shelf for MemoryShelf {
         ensures within { IfOk result (λ bytes. vec_len bytes ≤ limit) }
         ensures added { result ≡ Err ShelfFault.Failed → AddsName name.now self.old.failed self.new.failed }
         ensures too_long { result ≡ Err ShelfFault.TooLong → HasLongFile (Some self.old.files) name.now limit }
+
+        // It fails at the calls that it was told, and where there is no such file.
+        ensures told { Contains self.old.fails (one_more self.old.calls) → (result ≡ Err ShelfFault.Failed) ⊎ (result ≡ Err ShelfFault.Memory) }
+        ensures missing { file_of self.old.files name.now ≡ None → (result ≡ Err ShelfFault.Failed) ⊎ (result ≡ Err ShelfFault.Memory) }
+        ensures cause { result ≡ Err ShelfFault.Failed → Contains self.old.fails (one_more self.old.calls) ⊎ (file_of self.old.files name.now ≡ None) }
+        ensures kept { result ≢ Err ShelfFault.Failed → self.new.failed ≡ self.old.failed }
         ensures counted { (self.new.calls ≡ one_more self.old.calls) × (self.new.fails ≡ self.old.fails) }
     {
         self.calls = self.calls.saturating_add(1);
@@ -103,6 +109,107 @@ impl Shelf for MemoryShelf {
         match find(&self.files, name) {
             Some(bytes) => copy_of(alloc, bytes, limit),
             None => Err(name_fault(&mut self.failed, alloc, name)),
+        }
+    }
+}
+
+/// A sink in memory. Calls of `write` with a piece that isn't empty are numbered from 1; a number that
+/// stands at 2^64 - 1 stays there. If no call is told to fail, its count of faults is always 0.
+#[derive(Drop)]
+pub struct MemorySink {
+    held: Vec<u8>,
+    faults: u64,
+    wants: u64,
+    most: usize,
+    fails: Vec<u64>,
+    calls: u64,
+}
+
+impl Model for MemorySink {
+    ghost use Rattle.std.specs.Prelude.{◌≡◌, ◌≤◌, []};
+    ghost use Rattle.og_cli.specs.Memory.{MemoryBytes};
+
+    ghost Value = { MemoryBytes };
+
+    ghost view = { λ s. record { held = s.held.items; faults = s.faults; wants = s.wants; most = s.most; fails = s.fails.items; calls = s.calls } };
+
+    ghost invariant = { λ s. (1 ≤ s.most) × (s.fails.items ≡ [] → s.faults ≡ 0) };
+}
+
+impl MemorySink {
+    /// A sink that holds nothing, takes at most `most` bytes in a call, and fails at the calls with
+    /// these numbers.
+    pub fn make(alloc: Global, most: usize, fails: Vec<u64>) -> MemorySink
+        requires { 1 ≤ most }
+        ensures { result ≡ record { held = []; faults = 0; wants = 0; most = most; fails = fails.items; calls = 0 } }
+    {
+        MemorySink {
+            held: Vec::new(alloc),
+            faults: 0,
+            wants: 0,
+            most,
+            fails,
+            calls: 0,
+        }
+    }
+
+    /// What it holds.
+    pub fn held(&self) -> &[u8]
+        ensures { result.now ≡ self.now.held }
+    {
+        &self.held
+    }
+
+    /// How often it failed to write.
+    pub fn faults(&self) -> u64
+        ensures count { result ≡ self.now.faults }
+        ensures never { self.now.fails ≡ [] → result ≡ 0 }
+    {
+        self.faults
+    }
+}
+
+impl Sink for MemorySink {
+    ghost held = { λ s. Some s.held };
+
+    ghost faults = { λ s. s.faults };
+
+    ghost wants = { λ s. s.wants };
+
+    fn write(&mut self, piece: &[u8]) -> Result<usize, SinkFault>
+        ensures empty { piece.now ≡ [] → (result ≡ Ok 0) × (self.new ≡ self.old) }
+        ensures taken { IfOk result (λ n. n ≡ min (length piece.now) self.old.most) }
+        ensures some { piece.now ≢ [] → IfOk result (λ n. 1 ≤ n) }
+        ensures appends { IfOk result (λ n. self.new.held ≡ self.old.held ++ take n piece.now) }
+        ensures nothing { OnErr result (self.new.held ≡ self.old.held) }
+
+        // It fails at the calls that it was told, and at no others.
+        ensures told { piece.now ≢ [] → Contains self.old.fails (one_more self.old.calls) → result ≡ Err SinkFault.Failed }
+        ensures cause { result ≡ Err SinkFault.Failed → Contains self.old.fails (one_more self.old.calls) }
+        ensures fault { result ≡ Err SinkFault.Failed → self.new.faults ≡ one_more self.old.faults }
+        ensures no_fault { result ≢ Err SinkFault.Failed → self.new.faults ≡ self.old.faults }
+        ensures want { result ≡ Err SinkFault.Memory → self.new.wants ≡ one_more self.old.wants }
+        ensures no_want { result ≢ Err SinkFault.Memory → self.new.wants ≡ self.old.wants }
+        ensures faults_stay { self.old.faults ≤ self.new.faults }
+        ensures wants_stay { self.old.wants ≤ self.new.wants }
+        ensures counted { piece.now ≢ [] → self.new.calls ≡ one_more self.old.calls }
+        ensures same { (self.new.fails ≡ self.old.fails) × (self.new.most ≡ self.old.most) }
+    {
+        if piece.is_empty() {
+            return Ok(0);
+        }
+        self.calls = self.calls.saturating_add(1);
+        if self.fails.contains(&self.calls) {
+            self.faults = self.faults.saturating_add(1);
+            return Err(SinkFault::Failed);
+        }
+        let taken = piece.len().min(self.most);
+        match self.held.extend_from_slice(&piece[..taken]) {
+            Ok(()) => Ok(taken),
+            Err(_) => {
+                self.wants = self.wants.saturating_add(1);
+                Err(SinkFault::Memory)
+            }
         }
     }
 }
