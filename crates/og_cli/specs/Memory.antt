@@ -1,5 +1,5 @@
 -- What contracts see of a shelf and a sink in memory.
-use Rattle.std.specs.Prelude.{◌≡◌, ℕ, ◌+◌, ◌-◌, ◌^◌, min, List, [], ◌∷◌, string_bytes}
+use Rattle.std.specs.Prelude.{ℕ, ◌+◌, ◌-◌, ◌^◌, min, List, [], ◌∷◌, string_bytes}
 use Rattle.og_cli.specs.declared.outside.memory.NamedFile.{NamedFile}
 use Rattle.og_cli.specs.Outside.{Files}
 
