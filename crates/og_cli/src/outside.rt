@@ -148,3 +148,6 @@ pub fn write_all<K: Sink>(sink: &mut K, text: &[u8]) -> Result<(), SinkFault>
     }
     Ok(())
 }
+
+#[cfg(test)]
+mod tests;

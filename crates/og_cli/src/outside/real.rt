@@ -20,7 +20,9 @@ pub struct FileShelf<'a, R: Files> {
 
 impl<'a, R: Files> FileShelf<'a, R> {
     /// Takes no memory.
-    pub fn make(files: &'a R, alloc: Global) -> FileShelf<'a, R> {
+    pub fn make(files: &'a R, alloc: Global) -> FileShelf<'a, R>
+        ensures none_failed { ⟦<FileShelf<'a, R> as Shelf>⟧.failed result ≡ [] }
+    {
         FileShelf {
             files,
             failed: Vec::new(alloc),
@@ -114,7 +116,9 @@ pub struct StreamSink<W> {
 
 impl<W: Write + Drop> StreamSink<W> {
     /// Takes no memory. Its count of faults is 0.
-    pub fn make(writer: W) -> StreamSink<W> {
+    pub fn make(writer: W) -> StreamSink<W>
+        ensures no_faults { ⟦<StreamSink<W> as Sink>⟧.faults result ≡ 0 }
+    {
         StreamSink { writer, faults: 0 }
     }
 }
