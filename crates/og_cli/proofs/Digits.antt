@@ -1,5 +1,5 @@
 -- Hexadecimal digits, one by one.
-use Rattle.std.proofs.Common.{◌≡◌, ℕ, zero, suc, ◌-◌, ◌*◌, ◌/◌, ◌%◌, ◌^◌, ◌<◌, List, [], ◌∷◌, ◌++◌, arith, refl, sym, ap, append_assoc}
+use Rattle.std.proofs.Common.{◌≡◌, ℕ, zero, suc, ◌-◌, ◌*◌, ◌/◌, ◌%◌, ◌^◌, ◌<◌, List, [], ◌∷◌, ◌++◌, arith, sym, ap, append_assoc}
 use Rattle.std.proofs.Math.Path.{◌∙◌}
 use Rattle.og_cli.specs.Text.{hex_digit, hex_digits}
 

@@ -1,6 +1,5 @@
-use Rattle.std.proofs.Common.{arith, ◌≡◌, ◌++◌, ◌∷◌, [], ◌*◌, ◌/◌, ◌%◌, ◌^◌, ◌-◌, ap, List, ℕ}
+use Rattle.std.proofs.Common.{arith, ◌++◌, ◌∷◌, [], ap, ℕ}
 use Rattle.std.proofs.Math.Path.{◌∙◌}
-use Rattle.og_cli.specs.Text.{hex_digit}
 use Rattle.og_cli.proofs.Digits.{split_digit}
 use Rattle.og_cli.proofs.text.push_digits.Goals as goal
 
