@@ -1,6 +1,7 @@
 -- The outside: files with names, and a sink that holds what was written.
 use Rattle.std.specs.Prelude.{◌≡◌, ℕ, ◌+◌, ◌-◌, ◌^◌, ◌<◌, ◌≤◌, min, List, [], ◌∷◌, ◌++◌, length, take, Option, None, Some, IfSome, IsSomeAnd, ◌⊎◌, cond, map, String, string_bytes}
 use Rattle.std.specs.Str.{bytes_eq}
+use Rattle.std.proofs.Common.{Bor}
 
 -- ------------------------------------------------------------------------------ files
 
@@ -35,6 +36,11 @@ AddsAtMost name old new = (new ≡ old) ⊎ AddsName name old new
 abbrev pub appended : Option (List ℕ) → List ℕ → Option (List ℕ)
 appended None bytes = None
 appended (Some held) bytes = Some (held ++ bytes)
+
+-- the parts of a text, one after the other
+abbrev pub parts_text : List (Bor (List ℕ)) → List ℕ
+parts_text [] = []
+parts_text (p ∷ ps) = p.now ++ parts_text ps
 
 -- some first bytes of the text were appended
 abbrev pub AppendsPrefix : List ℕ → Option (List ℕ) → Option (List ℕ) → Type 0

@@ -6,7 +6,7 @@
 //! shelf keeps the names that it failed at, and a sink counts its faults.
 
 ghost use Rattle.std.specs.Prelude.{◌≡◌, ◌≢◌, ℕ, ◌≤◌, List, [], length, take, Option, Ok, Err, OnOk, OnErr, IfOk, vec_len};
-ghost use Rattle.og_cli.specs.Outside.{Files, HasFile, HasLongFile, AddsName, AddsAtMost, appended, AppendsPrefix, Rises, texts};
+ghost use Rattle.og_cli.specs.Outside.{Files, HasFile, HasLongFile, AddsName, AddsAtMost, appended, AppendsPrefix, Rises, texts, parts_text};
 
 use std::alloc::{AllocError, Global};
 
@@ -145,6 +145,22 @@ pub fn write_all<K: Sink>(sink: &mut K, text: &[u8]) -> Result<(), SinkFault>
     while !rest.is_empty() {
         let written = write_piece(sink, rest)?;
         rest = &rest[written..];
+    }
+    Ok(())
+}
+
+/// Writes the parts of a text, one after the other, and takes no memory itself. After a refusal some
+/// first bytes of the text were appended, and the fault is that of the sink's last call.
+pub fn write_parts<K: Sink>(sink: &mut K, parts: &[&[u8]]) -> Result<(), SinkFault>
+    ensures whole { OnOk result (K.held sink.new ≡ appended (K.held sink.old) (parts_text parts.now)) }
+    ensures prefix { OnErr result (AppendsPrefix (parts_text parts.now) (K.held sink.old) (K.held sink.new)) }
+    ensures fault { result ≡ Err SinkFault.Failed → Rises (K.faults sink.old) (K.faults sink.new) }
+    ensures want { result ≡ Err SinkFault.Memory → Rises (K.wants sink.old) (K.wants sink.new) }
+    ensures faults_stay { K.faults sink.old ≤ K.faults sink.new }
+    ensures wants_stay { K.wants sink.old ≤ K.wants sink.new }
+{
+    for part in parts {
+        write_all(sink, part)?;
     }
     Ok(())
 }

@@ -40,6 +40,22 @@ fn a_long_text_is_written_in_pieces(rt: HostRuntime) -> Result<(), Fail> {
     Ok(())
 }
 
+#[test]
+fn a_text_may_come_in_parts(rt: HostRuntime) -> Result<(), Fail> {
+    let parts = [
+        b"origin: cannot read ".as_slice(),
+        b"p1".as_slice(),
+        b"\n".as_slice(),
+    ];
+    let mut sink = MemorySink::make(rt.alloc(), 8, Vec::new(rt.alloc()));
+    assert_eq!(rt; write_parts(&mut sink, &parts), Ok(()));
+    assert_eq!(rt; sink.held(), b"origin: cannot read p1\n".as_slice());
+    let mut sink = MemorySink::make(rt.alloc(), 8, vec![in rt.alloc(); 4]?);
+    assert_eq!(rt; write_parts(&mut sink, &parts), Err(SinkFault::Failed));
+    assert_eq!(rt; sink.held(), b"origin: cannot read ".as_slice());
+    Ok(())
+}
+
 fn text_of(alloc: Global, text: &str) -> Result<String, AllocError> {
     String::from_str(alloc, text)
 }
