@@ -16,6 +16,9 @@ ghost use Rattle.og_line.specs.Laws.{StoredIsLoaded, OtherBytesStay, StoresAreCo
 
 use byteorder::{ByteOrder, LittleEndian};
 
+#[cfg(test)]
+mod tests;
+
 /// The bytes of a line.
 pub const LINE_BYTES: u64 = 128;
 
@@ -137,8 +140,8 @@ impl Access {
     }
 }
 
-// The low bytes of a number.
-fn low_bytes(width: u8, value: u64) -> u64
+/// The low bytes of a number: what an access carries of a register.
+pub fn low_bytes(width: u8, value: u64) -> u64
     requires { IsWidth width }
     ensures { result ≡ low_bytes_of width value }
 {

@@ -1,15 +1,15 @@
 -- What a word decodes to, by its opcode: the rows of the other opcodes fall away.
-use Rattle.std.proofs.Common.{◌≡◌, ◌≢◌, ℕ, ◌+◌, Bool, true, false, cond, not, ◌&&◌, ◌==◌, eqb, List, [], ◌∷◌, ◌++◌, Option, None, Some, refl, ap, sym, subst, ◌∙◌, arith, IsTrue}
+use Rattle.std.proofs.Common.{◌≡◌, ℕ, Bool, true, false, cond, ◌&&◌, ◌==◌, eqb, List, [], ◌∷◌, ◌++◌, Option, None, Some, refl, ap, sym, subst, ◌∙◌}
 use Rattle.std.specs.List.{find, filter, list_all, list_any}
 use Rattle.std.specs.Option.{option_map, option_or}
 use Rattle.std.proofs.lemmas.List.Folds.{find-append}
 use Rattle.std.proofs.lemmas.Bool.{false≢true, eqb-true}
-use Rattle.rv_decode.specs.declared.Op.{Op}
 use Rattle.rv_decode.specs.declared.Format.{Format}
 use Rattle.rv_decode.specs.declared.Format.TheVariants.{Register, Immediate, Shift, ShiftWord, Store, Branch, Upper, Jump, Whole, Reserve, Atomic}
 use Rattle.rv_decode.specs.declared.Instr.{Instr}
 use Rattle.rv_decode.specs.Fields.{opcode_of}
-use Rattle.rv_decode.specs.Rows.{Row, rows, fits, has_fields, operands_of, read_by, name_by, decode_of, lui_rows, auipc_rows, jal_rows, jalr_rows, branch_rows, load_rows, store_rows, immediate_rows, shift_rows, register_rows, immediate_word_rows, shift_word_rows, register_word_rows, fence_rows, system_rows, reserve_rows, atomic_rows}
+use Rattle.rv_decode.specs.declared.Row.{Row}
+use Rattle.rv_decode.specs.Rows.{rows, fits, has_fields, operands_of, read_by, name_by, decode_of, lui_rows, auipc_rows, jal_rows, jalr_rows, branch_rows, load_rows, store_rows, immediate_rows, shift_rows, register_rows, immediate_word_rows, shift_word_rows, register_word_rows, fence_rows, system_rows, reserve_rows, atomic_rows}
 
 -- the rows of one opcode
 abbrev pub with_opcode : ℕ → List Row → List Row
@@ -144,19 +144,19 @@ other_opcode : (k o : ℕ) → list_any (eqb k) opcodes ≡ false → list_any (
 other_opcode k o h known =
     let both : (b : Bool) → eqb k o ≡ b → eqb k o ≡ false =
     λ b. elim b as (λ v. eqb k o ≡ v → eqb k o ≡ false) [
-      true ↦ λ e.
-      absurd
-      (false≢true
-      (sym h ∙ subst (λ x. list_any (eqb x) opcodes ≡ true) (sym (eqb-true k o e)) known))
+      | true ↦ λ e.
+          absurd
+          (false≢true
+          (sym h ∙ subst (λ x. list_any (eqb x) opcodes ≡ true) (sym (eqb-true k o e)) known))
       | false ↦ λ e. e
     ] in
     both (eqb k o) refl
 
-first_true : (a b : Bool) → (a && b) ≡ true → a ≡ true
+pub first_true : (a b : Bool) → (a && b) ≡ true → a ≡ true
 first_true true b h = refl
 first_true false b h = h
 
-second_true : (a b : Bool) → (a && b) ≡ true → b ≡ true
+pub second_true : (a b : Bool) → (a && b) ≡ true → b ≡ true
 second_true true b h = h
 second_true false b h = absurd (false≢true h)
 

@@ -1,22 +1,15 @@
 -- The instructions of RV64IA, row by row (RISC-V unprivileged manual, "RV32/64G Instruction Set Listings"): the format,
 -- the opcode in bits 0 to 6, funct3 in bits 12 to 14, and what the format has above: funct7 in bits 25 to 31, the six
 -- bits above a shift amount, or the five bits that name an atomic. A field that a row's format hasn't is 0.
-use Rattle.std.specs.Prelude.{ℕ, ◌==◌, ◌&&◌, Bool, true, false, ℤ, pos, List, [], ◌∷◌, ◌++◌, Option, find}
+use Rattle.std.specs.Prelude.{ℕ, ◌==◌, ◌&&◌, Bool, true, false, pos, List, [], ◌∷◌, ◌++◌, ◌<◌, ◌≤◌, length, filter, Option, find}
 use Rattle.std.specs.Option.{option_map}
 use Rattle.rv_decode.specs.declared.Op.{Op}
 use Rattle.rv_decode.specs.declared.Op.TheVariants.{Lui, Auipc, Jal, Jalr, Beq, Bne, Blt, Bge, Bltu, Bgeu, Lb, Lh, Lw, Ld, Lbu, Lhu, Lwu, Sb, Sh, Sw, Sd, Addi, Slti, Sltiu, Xori, Ori, Andi, Slli, Srli, Srai, Add, Sll, Slt, Sltu, Xor, Srl, Or, And, Sub, Sra, Addiw, Slliw, Srliw, Sraiw, Addw, Sllw, Srlw, Subw, Sraw, Fence, Ecall, Ebreak, LrW, ScW, AmoswapW, AmoaddW, AmoxorW, AmoandW, AmoorW, AmominW, AmomaxW, AmominuW, AmomaxuW, LrD, ScD, AmoswapD, AmoaddD, AmoxorD, AmoandD, AmoorD, AmominD, AmomaxD, AmominuD, AmomaxuD}
 use Rattle.rv_decode.specs.declared.Format.{Format}
 use Rattle.rv_decode.specs.declared.Format.TheVariants.{Register, Immediate, Shift, ShiftWord, Store, Branch, Upper, Jump, Whole, Reserve, Atomic}
+use Rattle.rv_decode.specs.declared.Row.{Row}
 use Rattle.rv_decode.specs.declared.Instr.{Instr}
 use Rattle.rv_decode.specs.Fields.{bits_of, opcode_of, rd_of, funct3_of, rs1_of, rs2_of, funct5_of, funct6_of, funct7_of, aq_of, rl_of, imm_i, imm_s, imm_b, imm_u, imm_j}
-
--- a row of the listing
-pub record Row : Type 0 where
-  pub name : Op
-  pub format : Format
-  pub opcode : ℕ
-  pub funct3 : ℕ
-  pub above : ℕ
 
 abbrev pub row : Op → Format → ℕ → ℕ → ℕ → Row
 row name format opcode funct3 above = record {
@@ -217,3 +210,13 @@ name_by test rs = option_map (λ r. r.name) (find test rs)
 -- the instruction of a word, by the row that the word fits
 unfoldable pub decode_of : ℕ → Option Instr
 decode_of word = option_map (read_by word) (find (fits word) rows)
+
+-- no word fits two rows
+abbrev pub NoWordTwice : Type 0
+NoWordTwice = (word : ℕ) → length (filter (fits word) rows) ≤ 1
+
+-- the operands that name registers
+pub record HasRegisters (i : Instr) : Type 0 where
+  pub rd : i.rd < 32
+  pub rs1 : i.rs1 < 32
+  pub rs2 : i.rs2 < 32

@@ -1,5 +1,5 @@
 -- Numbers of a few bytes.
-use Rattle.std.proofs.Common.{◌≡◌, ℕ, zero, suc, ◌+◌, ◌-◌, ◌*◌, ◌≤◌, ◌<◌, ◌^◌, ◌≢◌, arith, subst, add-zero}
+use Rattle.std.proofs.Common.{◌≡◌, ℕ, zero, suc, ◌+◌, ◌-◌, ◌*◌, ◌≤◌, ◌<◌, ◌^◌, arith, subst, add-zero}
 use Rattle.std.proofs.Math.Nat.{pow-suc}
 
 -- one byte more is one power of 256 more

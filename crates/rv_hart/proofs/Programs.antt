@@ -1,5 +1,5 @@
 -- A raw file that isn't out can be loaded.
-use Rattle.std.proofs.Common.{◌≡◌, ℕ, ◌+◌, ◌-◌, ◌*◌, ◌/◌, ◌%◌, ◌<◌, ◌≤◌, Bool, true, false, length, List, [], ◌∷◌, ◌||◌, ◌&&◌, take, drop, nat_lt, nat_eq, max, arith, refl, length-drop, length-take, not}
+use Rattle.std.proofs.Common.{◌≡◌, ℕ, ◌+◌, ◌-◌, ◌*◌, ◌/◌, ◌%◌, ◌<◌, ◌≤◌, true, false, length, List, [], ◌∷◌, ◌||◌, ◌&&◌, take, drop, nat_lt, nat_eq, max, arith, refl, not}
 use Rattle.std.specs.Prelude.{All}
 use Rattle.std.proofs.lemmas.Bool.Decides.{nat_tests}
 use Rattle.std.proofs.lemmas.Grind.{common_steps}

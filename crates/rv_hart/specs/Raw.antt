@@ -1,5 +1,5 @@
 -- The raw form of a program: a length, so many bytes of text, then data.
-use Rattle.std.specs.Prelude.{◌≡◌, ℕ, ◌+◌, ◌-◌, ◌*◌, ◌/◌, ◌%◌, ◌||◌, Bool, true, false, nat_lt, nat_eq, not, List, [], ◌∷◌, length, slice_index, take, drop, max, cond}
+use Rattle.std.specs.Prelude.{ℕ, ◌+◌, ◌-◌, ◌*◌, ◌/◌, ◌%◌, ◌||◌, Bool, true, false, nat_lt, nat_eq, not, List, [], ◌∷◌, length, slice_index, take, drop, max}
 use Rattle.rv_hart.specs.declared.image.Segment.{Segment}
 use Rattle.rv_hart.specs.declared.image.Elf.{Elf}
 use Rattle.rv_hart.specs.Image.{number_at}

@@ -5,6 +5,9 @@
 //! the machine and the lines of memory; above stands the machine.
 #![tactic(auto)]
 
+mod compute;
+pub mod hart;
 pub mod image;
 pub mod layout;
 pub mod raw;
+mod work;

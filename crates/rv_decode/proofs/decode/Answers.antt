@@ -1,10 +1,5 @@
--- A word of another opcode has no row.
-use Rattle.std.proofs.Common.{◌≡◌, false, eqb, sym, rules}
-use Rattle.std.specs.List.{list_any}
-use Rattle.rv_decode.proofs.Groups.{opcodes, decode_none}
+use Rattle.rv_decode.proofs.Reassembly.{decoded_registers}
 use Rattle.rv_decode.proofs.decode.Goals as goal
 
-pub returns-in_default : goal.returns-in_default
-returns-in_default c =
-    let none : list_any (eqb c.bits.result) opcodes ≡ false = search rules in
-    sym (decode_none c.bits.result c.args.word (sym c.bits.ensures) none)
+pub returns-clause-registers : goal.returns-clause-registers
+returns-clause-registers c = decoded_registers c.args.word c.by_opcode.result c.by_opcode.ensures

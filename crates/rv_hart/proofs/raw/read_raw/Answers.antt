@@ -1,4 +1,4 @@
-use Rattle.std.proofs.Common.{◌≡◌, subst, sym}
+use Rattle.std.proofs.Common.{subst, sym}
 use Rattle.rv_hart.specs.declared.image.Elf.{Elf}
 use Rattle.rv_hart.specs.Image.{IsLoadable}
 use Rattle.rv_hart.proofs.Programs.{raw_loadable}

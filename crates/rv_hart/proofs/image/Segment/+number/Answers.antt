@@ -1,4 +1,4 @@
-use Rattle.std.proofs.Common.{◌≡◌, suc, ◌+◌, ◌-◌, ◌*◌, ◌<◌, ◌^◌, arith, ◌≤◌}
+use Rattle.std.proofs.Common.{◌≡◌, suc, ◌+◌, ◌-◌, ◌*◌, ◌<◌, ◌^◌, arith}
 use Rattle.rv_hart.proofs.Numbers.{one_more, in_word}
 use Rattle.rv_hart.proofs.image.Segment.+number.Goals as goal
 

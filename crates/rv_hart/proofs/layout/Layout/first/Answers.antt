@@ -1,4 +1,4 @@
-use Rattle.std.proofs.Common.{◌≡◌, ℕ, List, Some, None, Ok, Err, nat_eq, ap, refl}
+use Rattle.std.proofs.Common.{◌≡◌, Some, None, nat_eq, ap, refl}
 use Rattle.std.specs.List.{position}
 use Rattle.std.specs.List.Sorted.{IsStrictlyIncreasing}
 use Rattle.rv_hart.specs.Layout.{LayoutState}

@@ -1,6 +1,6 @@
-use Rattle.std.proofs.Common.{◌≡◌, ◌*◌, ◌%◌, ◌^◌, ◌<◌, arith}
+use Rattle.std.proofs.Common.{◌≡◌, ◌*◌, ◌%◌, ◌^◌}
 use Rattle.std.proofs.lemmas.Nat.{one_shl, and_mask}
-use Rattle.rv_decode.proofs.bits.Goals as goal
+use Rattle.rv_decode.proofs.fields.bits.Goals as goal
 
 pub returns : goal.returns
 returns c =
