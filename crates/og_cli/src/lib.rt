@@ -5,6 +5,5 @@
 //! `text` has the text of a run.
 #![tactic(auto)]
 
-pub mod note;
 pub mod outside;
 pub mod text;

@@ -5,9 +5,9 @@
 ghost use Rattle.std.specs.Prelude.{◌≡◌, [], ◌<◌, ◌≤◌, ◌*◌, ◌/◌, ◌^◌, ◌%◌, ◌∷◌, ◌++◌, Some, OnOk, IfOk, decimal, codes};
 ghost use Rattle.og_cli.specs.Text.{hex, hex_digit, hex_digits, page_word, frame_word, spaced, line, op_word, cause_word, reason_word, access_words, note_words, choice_line, note_line, event_lines, events_lines, end_line, text_of, access_count, is_access};
 
-use crate::note::Note;
 use itoa::Buffer;
 use og_base::{Cause, Frame, NoMemory, NodeId, Reason, VPage};
+use og_core::msg::Note;
 use og_line::{Access, AtomicOp};
 use og_runs::{Choice, Event, Stamp};
 use std::alloc::Global;
