@@ -9,6 +9,8 @@ ghost use Rattle.std.specs.Prelude.{◌≡◌, ℕ, ◌+◌, ◌*◌, ◌<◌, �
 
 use std::alloc::AllocError;
 
+pub use og_runs::{Choice, MsgId, Stamp, act_stamp, take_stamp};
+
 /// A node's number, from 0.
 pub type NodeId = u8;
 

@@ -9,7 +9,7 @@
 //! An actor's number is a `u8`. A clock and a message number are `u64`s.
 #![tactic(auto)]
 
-ghost use Rattle.std.specs.Prelude.{◌≡◌, ◌+◌, ◌<◌, ◌^◌, OnOk, IfOk, ◌++◌, length, max};
+ghost use Rattle.std.specs.Prelude.{◌≡◌, ◌+◌, ◌<◌, ◌^◌, OnOk, IfOk, ◌++◌, length, max, ◌≤◌, vec_len, vec_capacity};
 ghost use Rattle.std.specs.List.{filter};
 ghost use Rattle.std.specs.List.Sorted.{IsPermutation};
 ghost use Rattle.og_runs.specs.Runs.{InOrder, same_stamp, posted, IsSorted, joined};
@@ -137,6 +137,8 @@ pub fn post<K: Copy>(
 pub fn pull<K: Copy>(messages: &mut Vec<Msg<K>>, id: MsgId) -> Option<Msg<K>>
     ensures found { result ≡ find id messages.old.items }
     ensures left { messages.new.items ≡ without id messages.old.items }
+    ensures shorter { vec_len messages.new ≤ vec_len messages.old }
+    ensures capacity { vec_capacity messages.new ≡ vec_capacity messages.old }
 {
     let found = look(messages, id);
     messages.retain(|message| message.id != id);

@@ -1,5 +1,6 @@
 -- The list of placed pages rises, and a binary search in it finds the number of a page.
-use Rattle.std.proofs.Common.{◌≡◌, ◌≢◌, ℕ, zero, suc, ◌+◌, ◌-◌, ◌*◌, ◌<◌, ◌≤◌, length, List, [], ◌∷◌, ◌++◌, map, arith, refl, cond, true, false, Bool, get_or, Option, Some, None, Ok, Err, nat_eq, nat_cmp, ap, add-one, length-append}
+use Rattle.std.proofs.Common.{◌≡◌, ◌≢◌, ℕ, zero, suc, ◌+◌, ◌-◌, ◌*◌, ◌/◌, ◌<◌, ◌≤◌, length, List, [], ◌∷◌, ◌++◌, map, arith, refl, sym, subst, cond, true, false, Bool, get_or, ◌^◌, Option, Some, None, Result, Ok, Err, nat_eq, nat_cmp, ap, add-one, length-append}
+use Rattle.std.specs.Prelude.{slice_index, MatchResult}
 use Rattle.std.specs.List.{filter, position, position_or_len}
 use Rattle.std.specs.List.Sorted.{IsStrictlyIncreasing}
 use Rattle.std.proofs.lemmas.Bool.Decides.{nat_tests}
@@ -63,7 +64,7 @@ no_number xs page none =
 pub filter_below_more : (p : ℕ → Bool) (n : ℕ) → filter p (below (n + 1)) ≡ filter p (below n) ++ cond (p n) (n ∷ []) []
 filter_below_more p n = rw (below_more n, filter-append) refl
 
-pub map_below_more : (f : ℕ → ℕ) (n : ℕ) → map f (below (n + 1)) ≡ map f (below n) ++ f n ∷ []
+pub map_below_more : {X : Type 0} (f : ℕ → X) (n : ℕ) → map f (below (n + 1)) ≡ map f (below n) ++ f n ∷ []
 map_below_more f n = rw (below_more n, map-append) refl
 
 -- what a binary search in a rising list finds is the number of the page
@@ -105,24 +106,37 @@ filtered_small p (suc n) k lt =
 rising_append : (xs ys : List ℕ) (b : ℕ) → IsStrictlyIncreasing xs → IsStrictlyIncreasing ys → ((k : ℕ) → k < length xs → get_or xs k 0 < b) → ((k : ℕ) → k < length ys → b ≤ get_or ys k 0) → IsStrictlyIncreasing (xs ++ ys)
 rising_append xs ys b up on low high k lt = grind (arith, common_steps, up k, on (k - length xs), low k, high (k + 1 - length xs))
 
+-- the number of a stack page
+stack_at : (n k : ℕ) → k < length (map stack_page (below n)) → get_or (map stack_page (below n)) k 0 ≡ 458752 + 2 * k
+stack_at n k lt =
+    let size : length (map stack_page (below n)) ≡ length (below n) = length-map (below n) stack_page in
+    let all : length (below n) ≡ n = below_length n in
+    let small : k < length (below n) = omega arith in
+    let here : get_or (below n) k 0 ≡ k = below_at n k (omega arith) in
+    rw (get_or-map stack_page (below n) k 0 0 small, here) refl
+
+stacks_length : (n : ℕ) → length (map stack_page (below n)) ≡ n
+stacks_length n = rw (length-map (below n) stack_page) (below_length n)
+
 -- the placed pages rise: data pages lie below stack pages
 pub pages_rise : (image : ImageState) → IsStrictlyIncreasing (pages_of image)
 unfolding pages_of data_pages stack_pages
 pages_rise image =
-    let n : ℕ = image.nodes in
-    rising_append (filter (is_data_page image) (below 458752)) (map stack_page (below n)) 458752
-    (IsStrictlyIncreasing-filter (is_data_page image) (below 458752) (below_rises 458752)) (stacks n) (filtered_small (is_data_page image) 458752) (λ k lt. high n k lt)
+    rising_append (filter (is_data_page image) (below 458752)) (map stack_page (below image.nodes)) 458752
+    (IsStrictlyIncreasing-filter (is_data_page image) (below 458752) (below_rises 458752)) (stacks image.nodes) (filtered_small (is_data_page image) 458752) (λ k lt. high image.nodes k lt)
   where
-    at : (n k : ℕ) → k < length (map stack_page (below n)) → get_or (map stack_page (below n)) k 0 ≡ 458752 + 2 * k
-    at n k lt =
-        let size : length (map stack_page (below n)) ≡ length (below n) = length-map (below n) stack_page in
-        let all : length (below n) ≡ n = below_length n in
-        let small : k < length (below n) = omega arith in
-        let here : get_or (below n) k 0 ≡ k = below_at n k (omega arith) in
-        rw (get_or-map stack_page (below n) k 0 0 small, here) refl
-
     high : (n k : ℕ) → k < length (map stack_page (below n)) → 458752 ≤ get_or (map stack_page (below n)) k 0
-    high n k lt = rw (at n k lt) (omega arith)
-
+    high n k lt = rw (stack_at n k lt) (omega arith)
     stacks : (n : ℕ) → IsStrictlyIncreasing (map stack_page (below n))
-    stacks n k lt = rw (at n k (omega arith), at n (k + 1) lt) (omega arith)
+    stacks n k lt = rw (stack_at n k (omega arith), stack_at n (k + 1) lt) (omega arith)
+
+append_below : (xs ys : List ℕ) (b k : ℕ) → ((k : ℕ) → k < length xs → get_or xs k 0 < b) → ((k : ℕ) → k < length ys → get_or ys k 0 < b) → k < length (xs ++ ys) → get_or (xs ++ ys) k 0 < b
+append_below xs ys b k low high lt = grind (arith, common_steps, low k, high (k - length xs))
+
+-- and none is above the last stack page
+pub pages_small : (image : ImageState) (k : ℕ) → image.nodes ≤ 16 → k < length (pages_of image) → get_or (pages_of image) k 0 < 2 ^ 20
+unfolding pages_of data_pages stack_pages
+pages_small image k few lt =
+    append_below (filter (is_data_page image) (below 458752)) (map stack_page (below image.nodes)) (2 ^ 20) k
+    (λ j h. let small : get_or (filter (is_data_page image) (below 458752)) j 0 < 458752 = filtered_small (is_data_page image) 458752 j h in omega arith)
+    (λ j h. let size : length (map stack_page (below image.nodes)) ≡ image.nodes = stacks_length image.nodes in rw (stack_at image.nodes j h) (omega arith)) lt

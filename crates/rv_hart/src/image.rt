@@ -252,7 +252,7 @@ impl Image {
     }
 
     /// The byte that a writable segment has at an address, and 0 elsewhere.
-    fn start_byte(&self, addr: u64) -> u8
+    pub fn start_byte(&self, addr: u64) -> u8
         ensures { result ≡ start_byte self.now addr }
     {
         for segment in self.segments.as_slice() {

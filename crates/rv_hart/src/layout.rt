@@ -1,6 +1,7 @@
 //! In which frame each page stands at the start.
 
-ghost use Rattle.std.specs.Prelude.{◌≡◌, ℕ, ◌+◌, ◌*◌, ◌≤◌, ◌<◌, length, OnOk, IfOk};
+ghost use Rattle.std.specs.Option.{option_map};
+ghost use Rattle.std.specs.Prelude.{slice_get, IfSome, ◌^◌, ◌≡◌, ℕ, ◌+◌, ◌*◌, ◌≤◌, ◌<◌, length, OnOk, IfOk};
 ghost use Rattle.rv_hart.specs.Image.{ImageState};
 ghost use Rattle.rv_hart.specs.Layout.{layout_of, pages_of, data_pages, first_frame, frame_at};
 
@@ -27,7 +28,7 @@ pub struct Layout {
 }
 
 impl Model for Layout {
-    ghost use Rattle.std.specs.Prelude.{ℕ, ◌≤◌, ◌*◌, length};
+    ghost use Rattle.std.specs.Prelude.{ℕ, ◌≤◌, ◌<◌, ◌^◌, ◌*◌, length, slice_index};
     ghost use Rattle.std.specs.List.Sorted.{IsStrictlyIncreasing};
     ghost use Rattle.rv_hart.specs.Layout.{LayoutState};
 
@@ -35,7 +36,7 @@ impl Model for Layout {
 
     ghost view = { λ l. record { nodes = l.nodes; pages = l.pages.items } };
 
-    ghost invariant = { λ l. record { some : 1 ≤ l.nodes; few : l.nodes ≤ 16; rising : IsStrictlyIncreasing l.pages.items; room : length l.pages.items ≤ l.nodes * 1024 } };
+    ghost invariant = { λ l. record { some : 1 ≤ l.nodes; few : l.nodes ≤ 16; rising : IsStrictlyIncreasing l.pages.items; room : length l.pages.items ≤ l.nodes * 1024; low : (k : ℕ) → k < length l.pages.items → slice_index l.pages.items k < 2 ^ 20 } };
 }
 
 impl Layout {
@@ -69,6 +70,24 @@ impl Layout {
         match self.pages.as_slice().binary_search(&page.0) {
             Ok(i) => Some(self.frame(i)),
             Err(_) => None,
+        }
+    }
+
+    /// How many nodes share the pages.
+    pub fn nodes(&self) -> u8
+        ensures { result ≡ self.now.nodes }
+    {
+        self.nodes
+    }
+
+    /// The page with a number: None where there are no more pages.
+    pub fn page(&self, number: usize) -> Option<VPage>
+        ensures page { option_map (λ page. page.0) result ≡ slice_get self.now.pages number }
+        ensures low { IfSome result (λ page. page.0 < 2 ^ 20) }
+    {
+        match self.pages.as_slice().get(number) {
+            Some(page) => Some(VPage(*page)),
+            None => None,
         }
     }
 
