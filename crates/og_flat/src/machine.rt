@@ -1,11 +1,11 @@
 //! Flat memory as a plain program, for tests and checkers.
 
-ghost use Rattle.std.specs.Prelude.{◌≡◌, ◌+◌, ◌*◌, ◌/◌, ◌<◌, ◌^◌, ℕ, ◌++◌, IfOk, OnOk, replicate, slice_index, Some, None, true, length};
+ghost use Rattle.std.specs.Prelude.{◌≡◌, ◌+◌, ◌*◌, ◌/◌, ◌<◌, ◌^◌, ℕ, ◌++◌, ◌↔◌, IfOk, IfSome, IsTrue, OnOk, replicate, slice_index, Some, None, true, length};
 ghost use Rattle.std.specs.List.{flat_map};
-ghost use Rattle.og_line.specs.Access.{IsAligned};
+ghost use Rattle.og_line.specs.Access.{HasWidth, IsAligned};
 ghost use Rattle.rv_hart.specs.Image.{start_byte, is_page};
 ghost use Rattle.og_flat.specs.Flat.{Flat, block_of, flat_answer, flat_next, flat_start, start_line, start_lines};
-ghost use Rattle.og_flat.specs.Kept.{Keeps, has_block, line_in, place_in};
+ghost use Rattle.og_flat.specs.Kept.{IsYoung, Keeps, Takes, has_block, place_in};
 
 use og_base::{NoMemory, NodeId};
 use og_line::{Access, LINE_BYTES, Line, Reservation};
@@ -60,10 +60,7 @@ impl FlatMachine {
 
     /// Makes an access of a hart: answers it and changes memory and the hart's reservation.
     pub fn access(&mut self, hart: NodeId, access: &Access) -> u64
-        requires aligned { IsAligned access.now }
-        requires placed { has_block self.old (block_of access.now) ≡ true }
-        requires hart { hart < length self.old.reserved }
-        requires young { (line_in self.old (block_of access.now)).stores < 2 ^ 63 }
+        requires { Takes self.old hart access.now }
         ensures answer { (flat : Flat) → Keeps self.old flat → result ≡ flat_answer flat hart access.now }
         ensures kept { (flat : Flat) → Keeps self.old flat → Keeps self.new (flat_next flat hart access.now) }
         ensures pages { self.new.pages ≡ self.old.pages }
@@ -74,17 +71,68 @@ impl FlatMachine {
         line.perform(access, &mut self.reserved[usize::from(hart)])
     }
 
+    /// Whether an access of a hart can be made: it has a width of its kind and an address that is a
+    /// multiple of it, on a page of the program; the hart is one of the machine's; and its block has
+    /// seen fewer than 2^63 stores.
+    pub fn takes(&self, hart: NodeId, access: &Access) -> bool
+        ensures { IsTrue result ↔ Takes self.now hart access.now }
+    {
+        is_aligned(access) && usize::from(hart) < self.reserved.len() && self.is_young(access)
+    }
+
+    // Whether the block of an access is kept and has seen fewer than 2^63 stores.
+    fn is_young(&self, access: &Access) -> bool
+        ensures { IsTrue result ↔ IsYoung self.now access.now }
+    {
+        match self.find(access.addr() / LINE_BYTES) {
+            Some(at) => self.lines[at].stores < 1 << 63,
+            None => false,
+        }
+    }
+
+    // The place of a block's line, if it is kept.
+    fn find(&self, block: u64) -> Option<usize>
+        ensures place { result ≡ place_in self.now.pages block }
+        ensures inside { IfSome result (λ at. at < length self.now.lines) }
+    {
+        match self.pages.as_slice().binary_search(&(block / PAGE_LINES)) {
+            Ok(page) => Some(page * 32 + (block % PAGE_LINES) as usize),
+            Err(_) => None,
+        }
+    }
+
     // The place of a block's line.
     fn place(&self, block: u64) -> usize
         requires { has_block self.now block ≡ true }
         ensures place { place_in self.now.pages block ≡ Some result }
         ensures inside { result < length self.now.lines }
     {
-        match self.pages.as_slice().binary_search(&(block / PAGE_LINES)) {
-            Ok(page) => page * 32 + (block % PAGE_LINES) as usize,
-            Err(_) => unreachable!(),
+        match self.find(block) {
+            Some(at) => at,
+            None => unreachable!(),
         }
     }
+}
+
+// Whether an access has a width of its kind.
+fn has_width(access: &Access) -> bool
+    ensures { IsTrue result ↔ HasWidth access.now }
+{
+    match *access {
+        Access::Load { width, .. } | Access::Store { width, .. } => {
+            width == 1 || width == 2 || width == 4 || width == 8
+        }
+        Access::Reserve { width, .. }
+        | Access::Conditional { width, .. }
+        | Access::Atomic { width, .. } => width == 4 || width == 8,
+    }
+}
+
+// Whether an access has a width of its kind and an address that is a multiple of it.
+fn is_aligned(access: &Access) -> bool
+    ensures { IsTrue result ↔ IsAligned access.now }
+{
+    has_width(access) && access.addr().is_multiple_of(u64::from(access.width()))
 }
 
 /// A block's line at the start.

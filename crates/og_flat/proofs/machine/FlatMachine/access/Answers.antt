@@ -19,7 +19,7 @@ returns-clause-kept c flat keeps =
     ∙ ap (λ n. place_in c.args.self.now.pages (n / 128)) (sym c.addr.ensures)
     ∙ c.place-at.ensures.place in
     let inside : c.place-at.result < length kept.lines = subst (λ (k : KeptState). c.place-at.result < length k.lines) (sym view) c.place-at.ensures.inside in
-    let known : c.args.hart < length kept.reserved = subst (λ (k : KeptState). c.args.hart < length k.reserved) (sym view) c.requires.hart in
+    let known : c.args.hart < length kept.reserved = subst (λ (k : KeptState). c.args.hart < length k.reserved) (sym view) c.requires.hart_known in
     let line : c.index_mut-line.result.now ≡ get_or kept.lines c.place-at.result zero_line =
     c.index_mut-line.ensures.value ∙ get_or_default kept.lines c.place-at.result c.index_mut-line.result.now zero_line inside in
     let mine : c.index_mut.result.now ≡ get_or kept.reserved c.args.hart None =
