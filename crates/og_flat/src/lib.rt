@@ -9,6 +9,8 @@
 ghost use Rattle.og_flat.specs.Laws.{OthersStay, StartsWithBytes};
 
 pub mod machine;
+#[cfg(test)]
+mod tests;
 
 /// An access changes no other block and no other hart's reservation.
 pub fn others_stay()
