@@ -1,6 +1,7 @@
+pub mod Agreement
+pub mod HartFacts
+pub mod Needs
 pub mod Numbers
 pub mod Pages
-pub mod Programs
 pub mod Placed
-pub mod Agreement
-pub mod Needs
+pub mod Programs

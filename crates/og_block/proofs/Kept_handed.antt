@@ -1,0 +1,276 @@
+-- Each row keeps that an owner that has given the block away gave it to the requester.
+use Rattle.std.proofs.Common.{ℕ, ◌<◌, Bool, arith}
+use Rattle.std.proofs.lemmas.Bool.Decides.{nat_tests}
+use Rattle.og_block.specs.State.{Block}
+use Rattle.og_block.specs.Rows.{Row, guard, apply, actor_of, Send_read, Send_read_exclusive, Send_upgrade, Load_shared, Load_clean, Load_dirty, Store, Forget, Evict, Read_unowned, Read_shared, Read_by_owner, Read_owned, Read_busy, Read_poison, Read_exclusive_unowned, Read_exclusive_shared, Read_exclusive_by_owner, Read_exclusive_owned, Read_exclusive_busy, Read_exclusive_poison, Upgrade_shared, Upgrade_grouped, Upgrade_refused, Upgrade_poison, Write_back_owner, Write_back_busy_shared, Write_back_busy_exclusive, Write_back_requester, Write_back_busy_poison, Revision_sharing_write_back, Revision_sharing_transfer, Revision_dirty_transfer, Revision_returned, Revision_poison_back, Revision_poison_clean, Poison_read_unowned, Poison_read_shared, Poison_read_owned, Poison_read_busy, Copy_in, Fill_shared, Again_shared, Fill_clean, Fill_shared_answered, Fill_shared_speculative, Again_speculative, Fill_exclusive, Fill_exclusive_answered, Fill_exclusive_speculative, Fill_upgrade, Fill_upgrade_line, Again_refused, Again_upgrade_refused, Poisoned, Poison_collected, Invalidated, Acknowledged, Intervention_victim_busy, Intervention_victim_first, Intervention_shared_dirty, Intervention_shared_clean, Intervention_shared_none, Intervention_exclusive_dirty, Intervention_exclusive_clean, Intervention_poison_dirty, Intervention_poison_clean, Write_back_ack, Write_back_busy_ack_seen, Write_back_busy_ack_first, Send_poison_read}
+use Rattle.og_block.specs.Invariant.{Home, Local, Asks, Rests, Backs, Owned, Spent, Waits, Intervened, Revised}
+use Rattle.og_block.specs.Races.{Handed}
+
+module _ {L : Type 0} where
+  handed_Send_read : (n : ℕ) (f : L) (q : ℕ) (p : ℕ) (b : Block L) → guard (Send_read p) b → Handed b q → Asks b q → Waits b q → Intervened b q → Backs b q → Rests b q → Asks b p → p < n → Handed (apply n (Send_read p) b) q
+  handed_Send_read n f q p b g old h0 h1 h2 h3 h4 h5 h6 = grind (arith, nat_tests)
+
+  handed_Send_read_exclusive : (n : ℕ) (f : L) (q : ℕ) (p : ℕ) (b : Block L) → guard (Send_read_exclusive p) b → Handed b q → Asks b q → Waits b q → Intervened b q → Backs b q → Rests b q → Asks b p → p < n → Handed (apply n (Send_read_exclusive p) b) q
+  handed_Send_read_exclusive n f q p b g old h0 h1 h2 h3 h4 h5 h6 = grind (arith, nat_tests)
+
+  handed_Send_upgrade : (n : ℕ) (f : L) (q : ℕ) (p : ℕ) (l : L) (b : Block L) → guard (Send_upgrade p l) b → Handed b q → Asks b q → Waits b q → Intervened b q → Backs b q → Rests b q → Asks b p → p < n → Handed (apply n (Send_upgrade p l) b) q
+  handed_Send_upgrade n f q p l b g old h0 h1 h2 h3 h4 h5 h6 = grind (arith, nat_tests)
+
+  handed_Store : (n : ℕ) (f : L) (q : ℕ) (p : ℕ) (v : L) (l : L) (b : Block L) → guard (Store p v l) b → Handed b q → Asks b q → Waits b q → Intervened b q → Backs b q → Rests b q → Asks b p → p < n → Handed (apply n (Store p v l) b) q
+  handed_Store n f q p v l b g old h0 h1 h2 h3 h4 h5 h6 = grind (arith, nat_tests)
+
+  handed_Forget : (n : ℕ) (f : L) (q : ℕ) (p : ℕ) (b : Block L) → guard (Forget p) b → Handed b q → Asks b q → Waits b q → Intervened b q → Backs b q → Rests b q → Asks b p → p < n → Handed (apply n (Forget p) b) q
+  handed_Forget n f q p b g old h0 h1 h2 h3 h4 h5 h6 = grind (arith, nat_tests)
+
+  handed_Evict : (n : ℕ) (f : L) (q : ℕ) (p : ℕ) (l : L) (b : Block L) → guard (Evict p l) b → Handed b q → Asks b q → Waits b q → Intervened b q → Backs b q → Rests b q → Asks b p → p < n → Handed (apply n (Evict p l) b) q
+  handed_Evict n f q p l b g old h0 h1 h2 h3 h4 h5 h6 = grind (arith, nat_tests)
+
+  handed_Read_unowned : (n : ℕ) (f : L) (q : ℕ) (p : ℕ) (b : Block L) → guard (Read_unowned p) b → Handed b q → Asks b q → Waits b q → Intervened b q → Backs b q → Rests b q → Asks b p → p < n → Handed (apply n (Read_unowned p) b) q
+  handed_Read_unowned n f q p b g old h0 h1 h2 h3 h4 h5 h6 = grind (arith, nat_tests)
+
+  handed_Read_shared : (n : ℕ) (f : L) (q : ℕ) (p : ℕ) (s : ℕ → Bool) (b : Block L) → guard (Read_shared p s) b → Handed b q → Asks b q → Waits b q → Intervened b q → Backs b q → Rests b q → Asks b p → p < n → Handed (apply n (Read_shared p s) b) q
+  handed_Read_shared n f q p s b g old h0 h1 h2 h3 h4 h5 h6 = grind (arith, nat_tests)
+
+  handed_Read_by_owner : (n : ℕ) (f : L) (q : ℕ) (p : ℕ) (b : Block L) → guard (Read_by_owner p) b → Handed b q → Asks b q → Waits b q → Intervened b q → Backs b q → Rests b q → Asks b p → p < n → Handed (apply n (Read_by_owner p) b) q
+  handed_Read_by_owner n f q p b g old h0 h1 h2 h3 h4 h5 h6 = grind (arith, nat_tests)
+
+  handed_Read_owned : (n : ℕ) (f : L) (q : ℕ) (p : ℕ) (o : ℕ) (b : Block L) → guard (Read_owned p o) b → Handed b q → Asks b q → Waits b q → Intervened b q → Backs b q → Rests b q → Asks b p → p < n → Handed (apply n (Read_owned p o) b) q
+  handed_Read_owned n f q p o b g old h0 h1 h2 h3 h4 h5 h6 = grind (arith, nat_tests)
+
+  handed_Read_busy : (n : ℕ) (f : L) (q : ℕ) (p : ℕ) (b : Block L) → guard (Read_busy p) b → Handed b q → Asks b q → Waits b q → Intervened b q → Backs b q → Rests b q → Asks b p → p < n → Handed (apply n (Read_busy p) b) q
+  handed_Read_busy n f q p b g old h0 h1 h2 h3 h4 h5 h6 = grind (arith, nat_tests)
+
+  handed_Read_poison : (n : ℕ) (f : L) (q : ℕ) (p : ℕ) (o : ℕ) (b : Block L) → guard (Read_poison p o) b → Handed b q → Asks b q → Waits b q → Intervened b q → Backs b q → Rests b q → Asks b p → p < n → Handed (apply n (Read_poison p o) b) q
+  handed_Read_poison n f q p o b g old h0 h1 h2 h3 h4 h5 h6 = grind (arith, nat_tests)
+
+  handed_Read_exclusive_unowned : (n : ℕ) (f : L) (q : ℕ) (p : ℕ) (b : Block L) → guard (Read_exclusive_unowned p) b → Handed b q → Asks b q → Waits b q → Intervened b q → Backs b q → Rests b q → Asks b p → p < n → Handed (apply n (Read_exclusive_unowned p) b) q
+  handed_Read_exclusive_unowned n f q p b g old h0 h1 h2 h3 h4 h5 h6 = grind (arith, nat_tests)
+
+  handed_Read_exclusive_shared : (n : ℕ) (f : L) (q : ℕ) (p : ℕ) (s : ℕ → Bool) (b : Block L) → guard (Read_exclusive_shared p s) b → Handed b q → Asks b q → Waits b q → Intervened b q → Backs b q → Rests b q → Asks b p → p < n → Handed (apply n (Read_exclusive_shared p s) b) q
+  handed_Read_exclusive_shared n f q p s b g old h0 h1 h2 h3 h4 h5 h6 = grind (arith, nat_tests)
+
+  handed_Read_exclusive_by_owner : (n : ℕ) (f : L) (q : ℕ) (p : ℕ) (b : Block L) → guard (Read_exclusive_by_owner p) b → Handed b q → Asks b q → Waits b q → Intervened b q → Backs b q → Rests b q → Asks b p → p < n → Handed (apply n (Read_exclusive_by_owner p) b) q
+  handed_Read_exclusive_by_owner n f q p b g old h0 h1 h2 h3 h4 h5 h6 = grind (arith, nat_tests)
+
+  handed_Read_exclusive_owned : (n : ℕ) (f : L) (q : ℕ) (p : ℕ) (o : ℕ) (b : Block L) → guard (Read_exclusive_owned p o) b → Handed b q → Asks b q → Waits b q → Intervened b q → Backs b q → Rests b q → Asks b p → p < n → Rests b p → Backs b p → Owned b q → Owned b p → Waits b p → Intervened b p → Revised b.entry b.revision → Spent b q → Handed (apply n (Read_exclusive_owned p o) b) q
+  handed_Read_exclusive_owned n f q p o b g old h0 h1 h2 h3 h4 h5 h6 h7 h8 h9 h10 h11 h12 h13 h14 = grind (arith, nat_tests)
+
+  handed_Read_exclusive_busy : (n : ℕ) (f : L) (q : ℕ) (p : ℕ) (b : Block L) → guard (Read_exclusive_busy p) b → Handed b q → Asks b q → Waits b q → Intervened b q → Backs b q → Rests b q → Asks b p → p < n → Handed (apply n (Read_exclusive_busy p) b) q
+  handed_Read_exclusive_busy n f q p b g old h0 h1 h2 h3 h4 h5 h6 = grind (arith, nat_tests)
+
+  handed_Read_exclusive_poison : (n : ℕ) (f : L) (q : ℕ) (p : ℕ) (o : ℕ) (b : Block L) → guard (Read_exclusive_poison p o) b → Handed b q → Asks b q → Waits b q → Intervened b q → Backs b q → Rests b q → Asks b p → p < n → Handed (apply n (Read_exclusive_poison p o) b) q
+  handed_Read_exclusive_poison n f q p o b g old h0 h1 h2 h3 h4 h5 h6 = grind (arith, nat_tests)
+
+  handed_Upgrade_shared : (n : ℕ) (f : L) (q : ℕ) (p : ℕ) (s : ℕ → Bool) (b : Block L) → guard (Upgrade_shared p s) b → Handed b q → Asks b q → Waits b q → Intervened b q → Backs b q → Rests b q → Asks b p → p < n → Handed (apply n (Upgrade_shared p s) b) q
+  handed_Upgrade_shared n f q p s b g old h0 h1 h2 h3 h4 h5 h6 = grind (arith, nat_tests)
+
+  handed_Upgrade_grouped : (n : ℕ) (f : L) (q : ℕ) (p : ℕ) (s : ℕ → Bool) (b : Block L) → guard (Upgrade_grouped p s) b → Handed b q → Asks b q → Waits b q → Intervened b q → Backs b q → Rests b q → Asks b p → p < n → Handed (apply n (Upgrade_grouped p s) b) q
+  handed_Upgrade_grouped n f q p s b g old h0 h1 h2 h3 h4 h5 h6 = grind (arith, nat_tests)
+
+  handed_Upgrade_refused : (n : ℕ) (f : L) (q : ℕ) (p : ℕ) (b : Block L) → guard (Upgrade_refused p) b → Handed b q → Asks b q → Waits b q → Intervened b q → Backs b q → Rests b q → Asks b p → p < n → Handed (apply n (Upgrade_refused p) b) q
+  handed_Upgrade_refused n f q p b g old h0 h1 h2 h3 h4 h5 h6 = grind (arith, nat_tests)
+
+  handed_Upgrade_poison : (n : ℕ) (f : L) (q : ℕ) (p : ℕ) (o : ℕ) (b : Block L) → guard (Upgrade_poison p o) b → Handed b q → Asks b q → Waits b q → Intervened b q → Backs b q → Rests b q → Asks b p → p < n → Handed (apply n (Upgrade_poison p o) b) q
+  handed_Upgrade_poison n f q p o b g old h0 h1 h2 h3 h4 h5 h6 = grind (arith, nat_tests)
+
+  handed_Write_back_owner : (n : ℕ) (f : L) (q : ℕ) (p : ℕ) (l : L) (b : Block L) → guard (Write_back_owner p l) b → Handed b q → Asks b q → Waits b q → Intervened b q → Backs b q → Rests b q → Asks b p → p < n → Handed (apply n (Write_back_owner p l) b) q
+  handed_Write_back_owner n f q p l b g old h0 h1 h2 h3 h4 h5 h6 = grind (arith, nat_tests)
+
+  handed_Write_back_busy_shared : (n : ℕ) (f : L) (q : ℕ) (p : ℕ) (r : ℕ) (l : L) (b : Block L) → guard (Write_back_busy_shared p r l) b → Handed b q → Asks b q → Waits b q → Intervened b q → Backs b q → Rests b q → Asks b p → p < n → Handed (apply n (Write_back_busy_shared p r l) b) q
+  handed_Write_back_busy_shared n f q p r l b g old h0 h1 h2 h3 h4 h5 h6 = grind (arith, nat_tests)
+
+  handed_Write_back_busy_exclusive : (n : ℕ) (f : L) (q : ℕ) (p : ℕ) (r : ℕ) (l : L) (b : Block L) → guard (Write_back_busy_exclusive p r l) b → Handed b q → Asks b q → Waits b q → Intervened b q → Backs b q → Rests b q → Asks b p → p < n → Handed (apply n (Write_back_busy_exclusive p r l) b) q
+  handed_Write_back_busy_exclusive n f q p r l b g old h0 h1 h2 h3 h4 h5 h6 = grind (arith, nat_tests)
+
+  handed_Write_back_requester : (n : ℕ) (f : L) (q : ℕ) (p : ℕ) (o : ℕ) (l : L) (b : Block L) → guard (Write_back_requester p o l) b → Handed b q → Asks b q → Waits b q → Intervened b q → Backs b q → Rests b q → Asks b p → p < n → Handed (apply n (Write_back_requester p o l) b) q
+  handed_Write_back_requester n f q p o l b g old h0 h1 h2 h3 h4 h5 h6 = grind (arith, nat_tests)
+
+  handed_Write_back_busy_poison : (n : ℕ) (f : L) (q : ℕ) (p : ℕ) (r : ℕ) (l : L) (b : Block L) → guard (Write_back_busy_poison p r l) b → Handed b q → Asks b q → Waits b q → Intervened b q → Backs b q → Rests b q → Asks b p → p < n → Handed (apply n (Write_back_busy_poison p r l) b) q
+  handed_Write_back_busy_poison n f q p r l b g old h0 h1 h2 h3 h4 h5 h6 = grind (arith, nat_tests)
+
+  handed_Revision_sharing_write_back : (n : ℕ) (f : L) (q : ℕ) (o : ℕ) (r : ℕ) (l : L) (b : Block L) → guard (Revision_sharing_write_back o r l) b → Handed b q → Asks b q → Waits b q → Intervened b q → Backs b q → Rests b q → Asks b o → o < n → Handed (apply n (Revision_sharing_write_back o r l) b) q
+  handed_Revision_sharing_write_back n f q o r l b g old h0 h1 h2 h3 h4 h5 h6 = grind (arith, nat_tests)
+
+  handed_Revision_sharing_transfer : (n : ℕ) (f : L) (q : ℕ) (o : ℕ) (r : ℕ) (b : Block L) → guard (Revision_sharing_transfer o r) b → Handed b q → Asks b q → Waits b q → Intervened b q → Backs b q → Rests b q → Asks b o → o < n → Handed (apply n (Revision_sharing_transfer o r) b) q
+  handed_Revision_sharing_transfer n f q o r b g old h0 h1 h2 h3 h4 h5 h6 = grind (arith, nat_tests)
+
+  handed_Revision_dirty_transfer : (n : ℕ) (f : L) (q : ℕ) (o : ℕ) (r : ℕ) (b : Block L) → guard (Revision_dirty_transfer o r) b → Handed b q → Asks b q → Waits b q → Intervened b q → Backs b q → Rests b q → Asks b o → o < n → Handed (apply n (Revision_dirty_transfer o r) b) q
+  handed_Revision_dirty_transfer n f q o r b g old h0 h1 h2 h3 h4 h5 h6 = grind (arith, nat_tests)
+
+  handed_Revision_returned : (n : ℕ) (f : L) (q : ℕ) (o : ℕ) (r : ℕ) (b : Block L) → guard (Revision_returned o r) b → Handed b q → Asks b q → Waits b q → Intervened b q → Backs b q → Rests b q → Asks b o → o < n → Handed (apply n (Revision_returned o r) b) q
+  handed_Revision_returned n f q o r b g old h0 h1 h2 h3 h4 h5 h6 = grind (arith, nat_tests)
+
+  handed_Revision_poison_back : (n : ℕ) (f : L) (q : ℕ) (o : ℕ) (r : ℕ) (l : L) (b : Block L) → guard (Revision_poison_back o r l) b → Handed b q → Asks b q → Waits b q → Intervened b q → Backs b q → Rests b q → Asks b o → o < n → Handed (apply n (Revision_poison_back o r l) b) q
+  handed_Revision_poison_back n f q o r l b g old h0 h1 h2 h3 h4 h5 h6 = grind (arith, nat_tests)
+
+  handed_Revision_poison_clean : (n : ℕ) (f : L) (q : ℕ) (o : ℕ) (r : ℕ) (b : Block L) → guard (Revision_poison_clean o r) b → Handed b q → Asks b q → Waits b q → Intervened b q → Backs b q → Rests b q → Asks b o → o < n → Handed (apply n (Revision_poison_clean o r) b) q
+  handed_Revision_poison_clean n f q o r b g old h0 h1 h2 h3 h4 h5 h6 = grind (arith, nat_tests)
+
+  handed_Poison_read_unowned : (n : ℕ) (f : L) (q : ℕ) (p : ℕ) (b : Block L) → guard (Poison_read_unowned p) b → Handed b q → Asks b q → Waits b q → Intervened b q → Backs b q → Rests b q → Asks b p → p < n → Handed (apply n (Poison_read_unowned p) b) q
+  handed_Poison_read_unowned n f q p b g old h0 h1 h2 h3 h4 h5 h6 = grind (arith, nat_tests)
+
+  handed_Poison_read_shared : (n : ℕ) (f : L) (q : ℕ) (p : ℕ) (s : ℕ → Bool) (b : Block L) → guard (Poison_read_shared p s) b → Handed b q → Asks b q → Waits b q → Intervened b q → Backs b q → Rests b q → Asks b p → p < n → Handed (apply n (Poison_read_shared p s) b) q
+  handed_Poison_read_shared n f q p s b g old h0 h1 h2 h3 h4 h5 h6 = grind (arith, nat_tests)
+
+  handed_Poison_read_owned : (n : ℕ) (f : L) (q : ℕ) (p : ℕ) (o : ℕ) (b : Block L) → guard (Poison_read_owned p o) b → Handed b q → Asks b q → Waits b q → Intervened b q → Backs b q → Rests b q → Asks b p → p < n → Handed (apply n (Poison_read_owned p o) b) q
+  handed_Poison_read_owned n f q p o b g old h0 h1 h2 h3 h4 h5 h6 = grind (arith, nat_tests)
+
+  handed_Poison_read_busy : (n : ℕ) (f : L) (q : ℕ) (p : ℕ) (b : Block L) → guard (Poison_read_busy p) b → Handed b q → Asks b q → Waits b q → Intervened b q → Backs b q → Rests b q → Asks b p → p < n → Handed (apply n (Poison_read_busy p) b) q
+  handed_Poison_read_busy n f q p b g old h0 h1 h2 h3 h4 h5 h6 = grind (arith, nat_tests)
+
+  handed_Copy_in : (n : ℕ) (f : L) (q : ℕ) (p : ℕ) (v : L) (b : Block L) → guard (Copy_in p v) b → Handed b q → Asks b q → Waits b q → Intervened b q → Backs b q → Rests b q → Asks b p → p < n → Handed (apply n (Copy_in p v) b) q
+  handed_Copy_in n f q p v b g old h0 h1 h2 h3 h4 h5 h6 = grind (arith, nat_tests)
+
+  handed_Fill_shared : (n : ℕ) (f : L) (q : ℕ) (p : ℕ) (l : L) (b : Block L) → guard (Fill_shared p l) b → Handed b q → Asks b q → Waits b q → Intervened b q → Backs b q → Rests b q → Asks b p → p < n → Handed (apply n (Fill_shared p l) b) q
+  handed_Fill_shared n f q p l b g old h0 h1 h2 h3 h4 h5 h6 = grind (arith, nat_tests)
+
+  handed_Again_shared : (n : ℕ) (f : L) (q : ℕ) (p : ℕ) (l : L) (b : Block L) → guard (Again_shared p l) b → Handed b q → Asks b q → Waits b q → Intervened b q → Backs b q → Rests b q → Asks b p → p < n → Handed (apply n (Again_shared p l) b) q
+  handed_Again_shared n f q p l b g old h0 h1 h2 h3 h4 h5 h6 = grind (arith, nat_tests)
+
+  handed_Fill_clean : (n : ℕ) (f : L) (q : ℕ) (p : ℕ) (l : L) (m : Bool) (b : Block L) → guard (Fill_clean p l m) b → Handed b q → Asks b q → Waits b q → Intervened b q → Backs b q → Rests b q → Asks b p → p < n → Handed (apply n (Fill_clean p l m) b) q
+  handed_Fill_clean n f q p l m b g old h0 h1 h2 h3 h4 h5 h6 = grind (arith, nat_tests)
+
+  handed_Fill_shared_answered : (n : ℕ) (f : L) (q : ℕ) (p : ℕ) (l : L) (m : L) (b : Block L) → guard (Fill_shared_answered p l m) b → Handed b q → Asks b q → Waits b q → Intervened b q → Backs b q → Rests b q → Asks b p → p < n → Handed (apply n (Fill_shared_answered p l m) b) q
+  handed_Fill_shared_answered n f q p l m b g old h0 h1 h2 h3 h4 h5 h6 = grind (arith, nat_tests)
+
+  handed_Fill_shared_speculative : (n : ℕ) (f : L) (q : ℕ) (p : ℕ) (m : L) (b : Block L) → guard (Fill_shared_speculative p m) b → Handed b q → Asks b q → Waits b q → Intervened b q → Backs b q → Rests b q → Asks b p → p < n → Handed (apply n (Fill_shared_speculative p m) b) q
+  handed_Fill_shared_speculative n f q p m b g old h0 h1 h2 h3 h4 h5 h6 = grind (arith, nat_tests)
+
+  handed_Again_speculative : (n : ℕ) (f : L) (q : ℕ) (p : ℕ) (m : L) (b : Block L) → guard (Again_speculative p m) b → Handed b q → Asks b q → Waits b q → Intervened b q → Backs b q → Rests b q → Asks b p → p < n → Handed (apply n (Again_speculative p m) b) q
+  handed_Again_speculative n f q p m b g old h0 h1 h2 h3 h4 h5 h6 = grind (arith, nat_tests)
+
+  handed_Fill_exclusive : (n : ℕ) (f : L) (q : ℕ) (p : ℕ) (v : L) (l : L) (d : ℕ) (b : Block L) → guard (Fill_exclusive p v l d) b → Handed b q → Asks b q → Waits b q → Intervened b q → Backs b q → Rests b q → Asks b p → p < n → Handed (apply n (Fill_exclusive p v l d) b) q
+  handed_Fill_exclusive n f q p v l d b g old h0 h1 h2 h3 h4 h5 h6 = grind (arith, nat_tests)
+
+  handed_Fill_exclusive_answered : (n : ℕ) (f : L) (q : ℕ) (p : ℕ) (v : L) (m : L) (l : L) (b : Block L) → guard (Fill_exclusive_answered p v m l) b → Handed b q → Asks b q → Waits b q → Intervened b q → Backs b q → Rests b q → Asks b p → p < n → Handed (apply n (Fill_exclusive_answered p v m l) b) q
+  handed_Fill_exclusive_answered n f q p v m l b g old h0 h1 h2 h3 h4 h5 h6 = grind (arith, nat_tests)
+
+  handed_Fill_exclusive_speculative : (n : ℕ) (f : L) (q : ℕ) (p : ℕ) (v : L) (m : L) (b : Block L) → guard (Fill_exclusive_speculative p v m) b → Handed b q → Asks b q → Waits b q → Intervened b q → Backs b q → Rests b q → Asks b p → p < n → Handed (apply n (Fill_exclusive_speculative p v m) b) q
+  handed_Fill_exclusive_speculative n f q p v m b g old h0 h1 h2 h3 h4 h5 h6 = grind (arith, nat_tests)
+
+  handed_Fill_upgrade : (n : ℕ) (f : L) (q : ℕ) (p : ℕ) (v : L) (l : L) (d : ℕ) (b : Block L) → guard (Fill_upgrade p v l d) b → Handed b q → Asks b q → Waits b q → Intervened b q → Backs b q → Rests b q → Asks b p → p < n → Handed (apply n (Fill_upgrade p v l d) b) q
+  handed_Fill_upgrade n f q p v l d b g old h0 h1 h2 h3 h4 h5 h6 = grind (arith, nat_tests)
+
+  handed_Fill_upgrade_line : (n : ℕ) (f : L) (q : ℕ) (p : ℕ) (v : L) (l : L) (d : ℕ) (b : Block L) → guard (Fill_upgrade_line p v l d) b → Handed b q → Asks b q → Waits b q → Intervened b q → Backs b q → Rests b q → Asks b p → p < n → Handed (apply n (Fill_upgrade_line p v l d) b) q
+  handed_Fill_upgrade_line n f q p v l d b g old h0 h1 h2 h3 h4 h5 h6 = grind (arith, nat_tests)
+
+  handed_Again_refused : (n : ℕ) (f : L) (q : ℕ) (p : ℕ) (b : Block L) → guard (Again_refused p) b → Handed b q → Asks b q → Waits b q → Intervened b q → Backs b q → Rests b q → Asks b p → p < n → Handed (apply n (Again_refused p) b) q
+  handed_Again_refused n f q p b g old h0 h1 h2 h3 h4 h5 h6 = grind (arith, nat_tests)
+
+  handed_Again_upgrade_refused : (n : ℕ) (f : L) (q : ℕ) (p : ℕ) (b : Block L) → guard (Again_upgrade_refused p) b → Handed b q → Asks b q → Waits b q → Intervened b q → Backs b q → Rests b q → Asks b p → p < n → Handed (apply n (Again_upgrade_refused p) b) q
+  handed_Again_upgrade_refused n f q p b g old h0 h1 h2 h3 h4 h5 h6 = grind (arith, nat_tests)
+
+  handed_Poisoned : (n : ℕ) (f : L) (q : ℕ) (p : ℕ) (b : Block L) → guard (Poisoned p) b → Handed b q → Asks b q → Waits b q → Intervened b q → Backs b q → Rests b q → Asks b p → p < n → Handed (apply n (Poisoned p) b) q
+  handed_Poisoned n f q p b g old h0 h1 h2 h3 h4 h5 h6 = grind (arith, nat_tests)
+
+  handed_Poison_collected : (n : ℕ) (f : L) (q : ℕ) (p : ℕ) (l : L) (d : ℕ) (b : Block L) → guard (Poison_collected p l d) b → Handed b q → Asks b q → Waits b q → Intervened b q → Backs b q → Rests b q → Asks b p → p < n → Handed (apply n (Poison_collected p l d) b) q
+  handed_Poison_collected n f q p l d b g old h0 h1 h2 h3 h4 h5 h6 = grind (arith, nat_tests)
+
+  handed_Invalidated : (n : ℕ) (f : L) (q : ℕ) (p : ℕ) (r : ℕ) (b : Block L) → guard (Invalidated p r) b → Handed b q → Asks b q → Waits b q → Intervened b q → Backs b q → Rests b q → Asks b p → p < n → Handed (apply n (Invalidated p r) b) q
+  handed_Invalidated n f q p r b g old h0 h1 h2 h3 h4 h5 h6 = grind (arith, nat_tests)
+
+  handed_Intervention_shared_dirty : (n : ℕ) (f : L) (q : ℕ) (p : ℕ) (r : ℕ) (l : L) (b : Block L) → guard (Intervention_shared_dirty p r l) b → Handed b q → Asks b q → Waits b q → Intervened b q → Backs b q → Rests b q → Asks b p → p < n → Rests b p → Backs b p → Owned b q → Owned b p → Waits b p → Intervened b p → Revised b.entry b.revision → Spent b q → Handed (apply n (Intervention_shared_dirty p r l) b) q
+  handed_Intervention_shared_dirty n f q p r l b g old h0 h1 h2 h3 h4 h5 h6 h7 h8 h9 h10 h11 h12 h13 h14 = grind (arith, nat_tests)
+
+  handed_Intervention_shared_clean : (n : ℕ) (f : L) (q : ℕ) (p : ℕ) (r : ℕ) (l : L) (b : Block L) → guard (Intervention_shared_clean p r l) b → Handed b q → Asks b q → Waits b q → Intervened b q → Backs b q → Rests b q → Asks b p → p < n → Rests b p → Backs b p → Owned b q → Owned b p → Waits b p → Intervened b p → Revised b.entry b.revision → Spent b q → Handed (apply n (Intervention_shared_clean p r l) b) q
+  handed_Intervention_shared_clean n f q p r l b g old h0 h1 h2 h3 h4 h5 h6 h7 h8 h9 h10 h11 h12 h13 h14 = grind (arith, nat_tests)
+
+  handed_Intervention_shared_none : (n : ℕ) (f : L) (q : ℕ) (p : ℕ) (r : ℕ) (b : Block L) → guard (Intervention_shared_none p r) b → Handed b q → Asks b q → Waits b q → Intervened b q → Backs b q → Rests b q → Asks b p → p < n → Rests b p → Backs b p → Owned b q → Owned b p → Waits b p → Intervened b p → Revised b.entry b.revision → Spent b q → Handed (apply n (Intervention_shared_none p r) b) q
+  handed_Intervention_shared_none n f q p r b g old h0 h1 h2 h3 h4 h5 h6 h7 h8 h9 h10 h11 h12 h13 h14 = grind (arith, nat_tests)
+
+  handed_Intervention_exclusive_dirty : (n : ℕ) (f : L) (q : ℕ) (p : ℕ) (r : ℕ) (l : L) (b : Block L) → guard (Intervention_exclusive_dirty p r l) b → Handed b q → Asks b q → Waits b q → Intervened b q → Backs b q → Rests b q → Asks b p → p < n → Rests b p → Backs b p → Owned b q → Owned b p → Waits b p → Intervened b p → Revised b.entry b.revision → Spent b q → Handed (apply n (Intervention_exclusive_dirty p r l) b) q
+  handed_Intervention_exclusive_dirty n f q p r l b g old h0 h1 h2 h3 h4 h5 h6 h7 h8 h9 h10 h11 h12 h13 h14 = grind (arith, nat_tests)
+
+  handed_Intervention_exclusive_clean : (n : ℕ) (f : L) (q : ℕ) (p : ℕ) (r : ℕ) (b : Block L) → guard (Intervention_exclusive_clean p r) b → Handed b q → Asks b q → Waits b q → Intervened b q → Backs b q → Rests b q → Asks b p → p < n → Rests b p → Backs b p → Owned b q → Owned b p → Waits b p → Intervened b p → Revised b.entry b.revision → Spent b q → Handed (apply n (Intervention_exclusive_clean p r) b) q
+  handed_Intervention_exclusive_clean n f q p r b g old h0 h1 h2 h3 h4 h5 h6 h7 h8 h9 h10 h11 h12 h13 h14 = grind (arith, nat_tests)
+
+  handed_Intervention_poison_dirty : (n : ℕ) (f : L) (q : ℕ) (p : ℕ) (r : ℕ) (l : L) (b : Block L) → guard (Intervention_poison_dirty p r l) b → Handed b q → Asks b q → Waits b q → Intervened b q → Backs b q → Rests b q → Asks b p → p < n → Rests b p → Backs b p → Owned b q → Owned b p → Waits b p → Intervened b p → Revised b.entry b.revision → Spent b q → Handed (apply n (Intervention_poison_dirty p r l) b) q
+  handed_Intervention_poison_dirty n f q p r l b g old h0 h1 h2 h3 h4 h5 h6 h7 h8 h9 h10 h11 h12 h13 h14 = grind (arith, nat_tests)
+
+  handed_Intervention_poison_clean : (n : ℕ) (f : L) (q : ℕ) (p : ℕ) (r : ℕ) (b : Block L) → guard (Intervention_poison_clean p r) b → Handed b q → Asks b q → Waits b q → Intervened b q → Backs b q → Rests b q → Asks b p → p < n → Rests b p → Backs b p → Owned b q → Owned b p → Waits b p → Intervened b p → Revised b.entry b.revision → Spent b q → Handed (apply n (Intervention_poison_clean p r) b) q
+  handed_Intervention_poison_clean n f q p r b g old h0 h1 h2 h3 h4 h5 h6 h7 h8 h9 h10 h11 h12 h13 h14 = grind (arith, nat_tests)
+
+  handed_Write_back_ack : (n : ℕ) (f : L) (q : ℕ) (p : ℕ) (b : Block L) → guard (Write_back_ack p) b → Handed b q → Asks b q → Waits b q → Intervened b q → Backs b q → Rests b q → Asks b p → p < n → Handed (apply n (Write_back_ack p) b) q
+  handed_Write_back_ack n f q p b g old h0 h1 h2 h3 h4 h5 h6 = grind (arith, nat_tests)
+
+  handed_Write_back_busy_ack_seen : (n : ℕ) (f : L) (q : ℕ) (p : ℕ) (b : Block L) → guard (Write_back_busy_ack_seen p) b → Handed b q → Asks b q → Waits b q → Intervened b q → Backs b q → Rests b q → Asks b p → p < n → Handed (apply n (Write_back_busy_ack_seen p) b) q
+  handed_Write_back_busy_ack_seen n f q p b g old h0 h1 h2 h3 h4 h5 h6 = grind (arith, nat_tests)
+
+  handed_Write_back_busy_ack_first : (n : ℕ) (f : L) (q : ℕ) (p : ℕ) (b : Block L) → guard (Write_back_busy_ack_first p) b → Handed b q → Asks b q → Waits b q → Intervened b q → Backs b q → Rests b q → Asks b p → p < n → Handed (apply n (Write_back_busy_ack_first p) b) q
+  handed_Write_back_busy_ack_first n f q p b g old h0 h1 h2 h3 h4 h5 h6 = grind (arith, nat_tests)
+
+  handed_Send_poison_read : (n : ℕ) (f : L) (q : ℕ) (p : ℕ) (b : Block L) → guard (Send_poison_read p) b → Handed b q → Asks b q → Waits b q → Intervened b q → Backs b q → Rests b q → Asks b p → p < n → Handed (apply n (Send_poison_read p) b) q
+  handed_Send_poison_read n f q p b g old h0 h1 h2 h3 h4 h5 h6 = grind (arith, nat_tests)
+
+  pub handed_kept : (n : ℕ) (f : L) (q : ℕ) (b : Block L) (r : Row L) → guard r b → actor_of r < n → q < n → Home n f b → Local n f b (actor_of r) → Local n f b q → Handed b q → Handed (apply n r b) q
+  handed_kept n f q b (Send_read p) g lp lq home hp hq old = handed_Send_read n f q p b g old hq.asks hq.waits hq.intervened hq.backs hq.rests hp.asks lp
+  handed_kept n f q b (Send_read_exclusive p) g lp lq home hp hq old = handed_Send_read_exclusive n f q p b g old hq.asks hq.waits hq.intervened hq.backs hq.rests hp.asks lp
+  handed_kept n f q b (Send_upgrade p l) g lp lq home hp hq old = handed_Send_upgrade n f q p l b g old hq.asks hq.waits hq.intervened hq.backs hq.rests hp.asks lp
+  handed_kept n f q b (Load_shared p l) g lp lq home hp hq old = old
+  handed_kept n f q b (Load_clean p l) g lp lq home hp hq old = old
+  handed_kept n f q b (Load_dirty p l) g lp lq home hp hq old = old
+  handed_kept n f q b (Store p v l) g lp lq home hp hq old = handed_Store n f q p v l b g old hq.asks hq.waits hq.intervened hq.backs hq.rests hp.asks lp
+  handed_kept n f q b (Forget p) g lp lq home hp hq old = handed_Forget n f q p b g old hq.asks hq.waits hq.intervened hq.backs hq.rests hp.asks lp
+  handed_kept n f q b (Evict p l) g lp lq home hp hq old = handed_Evict n f q p l b g old hq.asks hq.waits hq.intervened hq.backs hq.rests hp.asks lp
+  handed_kept n f q b (Read_unowned p) g lp lq home hp hq old = handed_Read_unowned n f q p b g old hq.asks hq.waits hq.intervened hq.backs hq.rests hp.asks lp
+  handed_kept n f q b (Read_shared p s) g lp lq home hp hq old = handed_Read_shared n f q p s b g old hq.asks hq.waits hq.intervened hq.backs hq.rests hp.asks lp
+  handed_kept n f q b (Read_by_owner p) g lp lq home hp hq old = handed_Read_by_owner n f q p b g old hq.asks hq.waits hq.intervened hq.backs hq.rests hp.asks lp
+  handed_kept n f q b (Read_owned p o) g lp lq home hp hq old = handed_Read_owned n f q p o b g old hq.asks hq.waits hq.intervened hq.backs hq.rests hp.asks lp
+  handed_kept n f q b (Read_busy p) g lp lq home hp hq old = handed_Read_busy n f q p b g old hq.asks hq.waits hq.intervened hq.backs hq.rests hp.asks lp
+  handed_kept n f q b (Read_poison p o) g lp lq home hp hq old = handed_Read_poison n f q p o b g old hq.asks hq.waits hq.intervened hq.backs hq.rests hp.asks lp
+  handed_kept n f q b (Read_exclusive_unowned p) g lp lq home hp hq old = handed_Read_exclusive_unowned n f q p b g old hq.asks hq.waits hq.intervened hq.backs hq.rests hp.asks lp
+  handed_kept n f q b (Read_exclusive_shared p s) g lp lq home hp hq old = handed_Read_exclusive_shared n f q p s b g old hq.asks hq.waits hq.intervened hq.backs hq.rests hp.asks lp
+  handed_kept n f q b (Read_exclusive_by_owner p) g lp lq home hp hq old = handed_Read_exclusive_by_owner n f q p b g old hq.asks hq.waits hq.intervened hq.backs hq.rests hp.asks lp
+  handed_kept n f q b (Read_exclusive_owned p o) g lp lq home hp hq old = handed_Read_exclusive_owned n f q p o b g old hq.asks hq.waits hq.intervened hq.backs hq.rests hp.asks lp hp.rests hp.backs hq.owned hp.owned hp.waits hp.intervened home.revised hq.spent
+  handed_kept n f q b (Read_exclusive_busy p) g lp lq home hp hq old = handed_Read_exclusive_busy n f q p b g old hq.asks hq.waits hq.intervened hq.backs hq.rests hp.asks lp
+  handed_kept n f q b (Read_exclusive_poison p o) g lp lq home hp hq old = handed_Read_exclusive_poison n f q p o b g old hq.asks hq.waits hq.intervened hq.backs hq.rests hp.asks lp
+  handed_kept n f q b (Upgrade_shared p s) g lp lq home hp hq old = handed_Upgrade_shared n f q p s b g old hq.asks hq.waits hq.intervened hq.backs hq.rests hp.asks lp
+  handed_kept n f q b (Upgrade_grouped p s) g lp lq home hp hq old = handed_Upgrade_grouped n f q p s b g old hq.asks hq.waits hq.intervened hq.backs hq.rests hp.asks lp
+  handed_kept n f q b (Upgrade_refused p) g lp lq home hp hq old = handed_Upgrade_refused n f q p b g old hq.asks hq.waits hq.intervened hq.backs hq.rests hp.asks lp
+  handed_kept n f q b (Upgrade_poison p o) g lp lq home hp hq old = handed_Upgrade_poison n f q p o b g old hq.asks hq.waits hq.intervened hq.backs hq.rests hp.asks lp
+  handed_kept n f q b (Write_back_owner p l) g lp lq home hp hq old = handed_Write_back_owner n f q p l b g old hq.asks hq.waits hq.intervened hq.backs hq.rests hp.asks lp
+  handed_kept n f q b (Write_back_busy_shared p r l) g lp lq home hp hq old = handed_Write_back_busy_shared n f q p r l b g old hq.asks hq.waits hq.intervened hq.backs hq.rests hp.asks lp
+  handed_kept n f q b (Write_back_busy_exclusive p r l) g lp lq home hp hq old = handed_Write_back_busy_exclusive n f q p r l b g old hq.asks hq.waits hq.intervened hq.backs hq.rests hp.asks lp
+  handed_kept n f q b (Write_back_requester p o l) g lp lq home hp hq old = handed_Write_back_requester n f q p o l b g old hq.asks hq.waits hq.intervened hq.backs hq.rests hp.asks lp
+  handed_kept n f q b (Write_back_busy_poison p r l) g lp lq home hp hq old = handed_Write_back_busy_poison n f q p r l b g old hq.asks hq.waits hq.intervened hq.backs hq.rests hp.asks lp
+  handed_kept n f q b (Revision_sharing_write_back o r l) g lp lq home hp hq old = handed_Revision_sharing_write_back n f q o r l b g old hq.asks hq.waits hq.intervened hq.backs hq.rests hp.asks lp
+  handed_kept n f q b (Revision_sharing_transfer o r) g lp lq home hp hq old = handed_Revision_sharing_transfer n f q o r b g old hq.asks hq.waits hq.intervened hq.backs hq.rests hp.asks lp
+  handed_kept n f q b (Revision_dirty_transfer o r) g lp lq home hp hq old = handed_Revision_dirty_transfer n f q o r b g old hq.asks hq.waits hq.intervened hq.backs hq.rests hp.asks lp
+  handed_kept n f q b (Revision_returned o r) g lp lq home hp hq old = handed_Revision_returned n f q o r b g old hq.asks hq.waits hq.intervened hq.backs hq.rests hp.asks lp
+  handed_kept n f q b (Revision_poison_back o r l) g lp lq home hp hq old = handed_Revision_poison_back n f q o r l b g old hq.asks hq.waits hq.intervened hq.backs hq.rests hp.asks lp
+  handed_kept n f q b (Revision_poison_clean o r) g lp lq home hp hq old = handed_Revision_poison_clean n f q o r b g old hq.asks hq.waits hq.intervened hq.backs hq.rests hp.asks lp
+  handed_kept n f q b (Poison_read_unowned p) g lp lq home hp hq old = handed_Poison_read_unowned n f q p b g old hq.asks hq.waits hq.intervened hq.backs hq.rests hp.asks lp
+  handed_kept n f q b (Poison_read_shared p s) g lp lq home hp hq old = handed_Poison_read_shared n f q p s b g old hq.asks hq.waits hq.intervened hq.backs hq.rests hp.asks lp
+  handed_kept n f q b (Poison_read_owned p o) g lp lq home hp hq old = handed_Poison_read_owned n f q p o b g old hq.asks hq.waits hq.intervened hq.backs hq.rests hp.asks lp
+  handed_kept n f q b (Poison_read_busy p) g lp lq home hp hq old = handed_Poison_read_busy n f q p b g old hq.asks hq.waits hq.intervened hq.backs hq.rests hp.asks lp
+  handed_kept n f q b (Copy_in p v) g lp lq home hp hq old = handed_Copy_in n f q p v b g old hq.asks hq.waits hq.intervened hq.backs hq.rests hp.asks lp
+  handed_kept n f q b (Fill_shared p l) g lp lq home hp hq old = handed_Fill_shared n f q p l b g old hq.asks hq.waits hq.intervened hq.backs hq.rests hp.asks lp
+  handed_kept n f q b (Again_shared p l) g lp lq home hp hq old = handed_Again_shared n f q p l b g old hq.asks hq.waits hq.intervened hq.backs hq.rests hp.asks lp
+  handed_kept n f q b (Fill_clean p l m) g lp lq home hp hq old = handed_Fill_clean n f q p l m b g old hq.asks hq.waits hq.intervened hq.backs hq.rests hp.asks lp
+  handed_kept n f q b (Fill_shared_answered p l m) g lp lq home hp hq old = handed_Fill_shared_answered n f q p l m b g old hq.asks hq.waits hq.intervened hq.backs hq.rests hp.asks lp
+  handed_kept n f q b (Fill_shared_speculative p m) g lp lq home hp hq old = handed_Fill_shared_speculative n f q p m b g old hq.asks hq.waits hq.intervened hq.backs hq.rests hp.asks lp
+  handed_kept n f q b (Again_speculative p m) g lp lq home hp hq old = handed_Again_speculative n f q p m b g old hq.asks hq.waits hq.intervened hq.backs hq.rests hp.asks lp
+  handed_kept n f q b (Fill_exclusive p v l d) g lp lq home hp hq old = handed_Fill_exclusive n f q p v l d b g old hq.asks hq.waits hq.intervened hq.backs hq.rests hp.asks lp
+  handed_kept n f q b (Fill_exclusive_answered p v m l) g lp lq home hp hq old = handed_Fill_exclusive_answered n f q p v m l b g old hq.asks hq.waits hq.intervened hq.backs hq.rests hp.asks lp
+  handed_kept n f q b (Fill_exclusive_speculative p v m) g lp lq home hp hq old = handed_Fill_exclusive_speculative n f q p v m b g old hq.asks hq.waits hq.intervened hq.backs hq.rests hp.asks lp
+  handed_kept n f q b (Fill_upgrade p v l d) g lp lq home hp hq old = handed_Fill_upgrade n f q p v l d b g old hq.asks hq.waits hq.intervened hq.backs hq.rests hp.asks lp
+  handed_kept n f q b (Fill_upgrade_line p v l d) g lp lq home hp hq old = handed_Fill_upgrade_line n f q p v l d b g old hq.asks hq.waits hq.intervened hq.backs hq.rests hp.asks lp
+  handed_kept n f q b (Again_refused p) g lp lq home hp hq old = handed_Again_refused n f q p b g old hq.asks hq.waits hq.intervened hq.backs hq.rests hp.asks lp
+  handed_kept n f q b (Again_upgrade_refused p) g lp lq home hp hq old = handed_Again_upgrade_refused n f q p b g old hq.asks hq.waits hq.intervened hq.backs hq.rests hp.asks lp
+  handed_kept n f q b (Poisoned p) g lp lq home hp hq old = handed_Poisoned n f q p b g old hq.asks hq.waits hq.intervened hq.backs hq.rests hp.asks lp
+  handed_kept n f q b (Poison_collected p l d) g lp lq home hp hq old = handed_Poison_collected n f q p l d b g old hq.asks hq.waits hq.intervened hq.backs hq.rests hp.asks lp
+  handed_kept n f q b (Invalidated p r) g lp lq home hp hq old = handed_Invalidated n f q p r b g old hq.asks hq.waits hq.intervened hq.backs hq.rests hp.asks lp
+  handed_kept n f q b (Acknowledged p r) g lp lq home hp hq old = old
+  handed_kept n f q b (Intervention_victim_busy p) g lp lq home hp hq old = old
+  handed_kept n f q b (Intervention_victim_first p) g lp lq home hp hq old = old
+  handed_kept n f q b (Intervention_shared_dirty p r l) g lp lq home hp hq old = handed_Intervention_shared_dirty n f q p r l b g old hq.asks hq.waits hq.intervened hq.backs hq.rests hp.asks lp hp.rests hp.backs hq.owned hp.owned hp.waits hp.intervened home.revised hq.spent
+  handed_kept n f q b (Intervention_shared_clean p r l) g lp lq home hp hq old = handed_Intervention_shared_clean n f q p r l b g old hq.asks hq.waits hq.intervened hq.backs hq.rests hp.asks lp hp.rests hp.backs hq.owned hp.owned hp.waits hp.intervened home.revised hq.spent
+  handed_kept n f q b (Intervention_shared_none p r) g lp lq home hp hq old = handed_Intervention_shared_none n f q p r b g old hq.asks hq.waits hq.intervened hq.backs hq.rests hp.asks lp hp.rests hp.backs hq.owned hp.owned hp.waits hp.intervened home.revised hq.spent
+  handed_kept n f q b (Intervention_exclusive_dirty p r l) g lp lq home hp hq old = handed_Intervention_exclusive_dirty n f q p r l b g old hq.asks hq.waits hq.intervened hq.backs hq.rests hp.asks lp hp.rests hp.backs hq.owned hp.owned hp.waits hp.intervened home.revised hq.spent
+  handed_kept n f q b (Intervention_exclusive_clean p r) g lp lq home hp hq old = handed_Intervention_exclusive_clean n f q p r b g old hq.asks hq.waits hq.intervened hq.backs hq.rests hp.asks lp hp.rests hp.backs hq.owned hp.owned hp.waits hp.intervened home.revised hq.spent
+  handed_kept n f q b (Intervention_poison_dirty p r l) g lp lq home hp hq old = handed_Intervention_poison_dirty n f q p r l b g old hq.asks hq.waits hq.intervened hq.backs hq.rests hp.asks lp hp.rests hp.backs hq.owned hp.owned hp.waits hp.intervened home.revised hq.spent
+  handed_kept n f q b (Intervention_poison_clean p r) g lp lq home hp hq old = handed_Intervention_poison_clean n f q p r b g old hq.asks hq.waits hq.intervened hq.backs hq.rests hp.asks lp hp.rests hp.backs hq.owned hp.owned hp.waits hp.intervened home.revised hq.spent
+  handed_kept n f q b (Write_back_ack p) g lp lq home hp hq old = handed_Write_back_ack n f q p b g old hq.asks hq.waits hq.intervened hq.backs hq.rests hp.asks lp
+  handed_kept n f q b (Write_back_busy_ack_seen p) g lp lq home hp hq old = handed_Write_back_busy_ack_seen n f q p b g old hq.asks hq.waits hq.intervened hq.backs hq.rests hp.asks lp
+  handed_kept n f q b (Write_back_busy_ack_first p) g lp lq home hp hq old = handed_Write_back_busy_ack_first n f q p b g old hq.asks hq.waits hq.intervened hq.backs hq.rests hp.asks lp
+  handed_kept n f q b (Send_poison_read p) g lp lq home hp hq old = handed_Send_poison_read n f q p b g old hq.asks hq.waits hq.intervened hq.backs hq.rests hp.asks lp

@@ -1,0 +1,269 @@
+-- The part `trusted` is kept by each row. Each lemma takes the parts that it needs, of q and of the actor that acts.
+use Rattle.std.proofs.Common.{ℕ, ◌<◌, Bool, arith}
+use Rattle.std.proofs.lemmas.Bool.Decides.{nat_tests}
+use Rattle.og_block.specs.State.{Block}
+use Rattle.og_block.specs.Rows.{Row, guard, apply, actor_of, Send_read, Send_read_exclusive, Send_upgrade, Load_shared, Load_clean, Load_dirty, Store, Forget, Evict, Read_unowned, Read_shared, Read_by_owner, Read_owned, Read_busy, Read_poison, Read_exclusive_unowned, Read_exclusive_shared, Read_exclusive_by_owner, Read_exclusive_owned, Read_exclusive_busy, Read_exclusive_poison, Upgrade_shared, Upgrade_grouped, Upgrade_refused, Upgrade_poison, Write_back_owner, Write_back_busy_shared, Write_back_busy_exclusive, Write_back_requester, Write_back_busy_poison, Revision_sharing_write_back, Revision_sharing_transfer, Revision_dirty_transfer, Revision_returned, Revision_poison_back, Revision_poison_clean, Poison_read_unowned, Poison_read_shared, Poison_read_owned, Poison_read_busy, Copy_in, Fill_shared, Again_shared, Fill_clean, Fill_shared_answered, Fill_shared_speculative, Again_speculative, Fill_exclusive, Fill_exclusive_answered, Fill_exclusive_speculative, Fill_upgrade, Fill_upgrade_line, Again_refused, Again_upgrade_refused, Poisoned, Poison_collected, Invalidated, Acknowledged, Intervention_victim_busy, Intervention_victim_first, Intervention_shared_dirty, Intervention_shared_clean, Intervention_shared_none, Intervention_exclusive_dirty, Intervention_exclusive_clean, Intervention_poison_dirty, Intervention_poison_clean, Write_back_ack, Write_back_busy_ack_seen, Write_back_busy_ack_first, Send_poison_read}
+use Rattle.og_block.specs.Invariant.{Local, Home, Invariant, Asks, Backs, Intervened, Owned, Rests, Revised, Spent, Trusted, Waits}
+
+module _ {L : Type 0} where
+  trusted_Send_read : (n : ℕ) (f : L) (q : ℕ) (p : ℕ) (b : Block L) → guard (Send_read p) b → Trusted b q → Asks b q → Waits b q → Asks b p → Trusted (apply n (Send_read p) b) q
+  trusted_Send_read n f q p b g h0 h1 h2 h3 = grind (arith, nat_tests)
+
+  trusted_Send_read_exclusive : (n : ℕ) (f : L) (q : ℕ) (p : ℕ) (b : Block L) → guard (Send_read_exclusive p) b → Trusted b q → Asks b q → Waits b q → Asks b p → Trusted (apply n (Send_read_exclusive p) b) q
+  trusted_Send_read_exclusive n f q p b g h0 h1 h2 h3 = grind (arith, nat_tests)
+
+  trusted_Send_upgrade : (n : ℕ) (f : L) (q : ℕ) (p : ℕ) (l : L) (b : Block L) → guard (Send_upgrade p l) b → Trusted b q → Asks b q → Waits b q → Asks b p → Trusted (apply n (Send_upgrade p l) b) q
+  trusted_Send_upgrade n f q p l b g h0 h1 h2 h3 = grind (arith, nat_tests)
+
+  trusted_Store : (n : ℕ) (f : L) (q : ℕ) (p : ℕ) (v : L) (l : L) (b : Block L) → guard (Store p v l) b → Trusted b q → Asks b q → Waits b q → Asks b p → Trusted (apply n (Store p v l) b) q
+  trusted_Store n f q p v l b g h0 h1 h2 h3 = grind (arith, nat_tests)
+
+  trusted_Forget : (n : ℕ) (f : L) (q : ℕ) (p : ℕ) (b : Block L) → guard (Forget p) b → Trusted b q → Asks b q → Waits b q → Asks b p → Trusted (apply n (Forget p) b) q
+  trusted_Forget n f q p b g h0 h1 h2 h3 = grind (arith, nat_tests)
+
+  trusted_Evict : (n : ℕ) (f : L) (q : ℕ) (p : ℕ) (l : L) (b : Block L) → guard (Evict p l) b → Trusted b q → Asks b q → Waits b q → Asks b p → Trusted (apply n (Evict p l) b) q
+  trusted_Evict n f q p l b g h0 h1 h2 h3 = grind (arith, nat_tests)
+
+  trusted_Read_unowned : (n : ℕ) (f : L) (q : ℕ) (p : ℕ) (b : Block L) → guard (Read_unowned p) b → Trusted b q → Asks b q → Waits b q → Asks b p → Trusted (apply n (Read_unowned p) b) q
+  trusted_Read_unowned n f q p b g h0 h1 h2 h3 = grind (arith, nat_tests)
+
+  trusted_Read_shared : (n : ℕ) (f : L) (q : ℕ) (p : ℕ) (s : ℕ → Bool) (b : Block L) → guard (Read_shared p s) b → Trusted b q → Asks b q → Waits b q → Asks b p → Trusted (apply n (Read_shared p s) b) q
+  trusted_Read_shared n f q p s b g h0 h1 h2 h3 = grind (arith, nat_tests)
+
+  trusted_Read_by_owner : (n : ℕ) (f : L) (q : ℕ) (p : ℕ) (b : Block L) → guard (Read_by_owner p) b → Trusted b q → Asks b q → Waits b q → Asks b p → Trusted (apply n (Read_by_owner p) b) q
+  trusted_Read_by_owner n f q p b g h0 h1 h2 h3 = grind (arith, nat_tests)
+
+  trusted_Read_owned : (n : ℕ) (f : L) (q : ℕ) (p : ℕ) (o : ℕ) (b : Block L) → guard (Read_owned p o) b → Trusted b q → Asks b q → Waits b q → Asks b p → Trusted (apply n (Read_owned p o) b) q
+  trusted_Read_owned n f q p o b g h0 h1 h2 h3 = grind (arith, nat_tests)
+
+  trusted_Read_busy : (n : ℕ) (f : L) (q : ℕ) (p : ℕ) (b : Block L) → guard (Read_busy p) b → Trusted b q → Asks b q → Waits b q → Asks b p → Trusted (apply n (Read_busy p) b) q
+  trusted_Read_busy n f q p b g h0 h1 h2 h3 = grind (arith, nat_tests)
+
+  trusted_Read_poison : (n : ℕ) (f : L) (q : ℕ) (p : ℕ) (o : ℕ) (b : Block L) → guard (Read_poison p o) b → Trusted b q → Asks b q → Waits b q → Asks b p → Trusted (apply n (Read_poison p o) b) q
+  trusted_Read_poison n f q p o b g h0 h1 h2 h3 = grind (arith, nat_tests)
+
+  trusted_Read_exclusive_unowned : (n : ℕ) (f : L) (q : ℕ) (p : ℕ) (b : Block L) → guard (Read_exclusive_unowned p) b → Trusted b q → Asks b q → Waits b q → Asks b p → Trusted (apply n (Read_exclusive_unowned p) b) q
+  trusted_Read_exclusive_unowned n f q p b g h0 h1 h2 h3 = grind (arith, nat_tests)
+
+  trusted_Read_exclusive_shared : (n : ℕ) (f : L) (q : ℕ) (p : ℕ) (s : ℕ → Bool) (b : Block L) → guard (Read_exclusive_shared p s) b → Trusted b q → Asks b q → Waits b q → Asks b p → Trusted (apply n (Read_exclusive_shared p s) b) q
+  trusted_Read_exclusive_shared n f q p s b g h0 h1 h2 h3 = grind (arith, nat_tests)
+
+  trusted_Read_exclusive_by_owner : (n : ℕ) (f : L) (q : ℕ) (p : ℕ) (b : Block L) → guard (Read_exclusive_by_owner p) b → Trusted b q → Asks b q → Waits b q → Asks b p → Trusted (apply n (Read_exclusive_by_owner p) b) q
+  trusted_Read_exclusive_by_owner n f q p b g h0 h1 h2 h3 = grind (arith, nat_tests)
+
+  trusted_Read_exclusive_owned : (n : ℕ) (f : L) (q : ℕ) (p : ℕ) (o : ℕ) (b : Block L) → guard (Read_exclusive_owned p o) b → Trusted b q → Asks b q → Waits b q → Asks b p → Rests b q → Rests b p → Backs b q → Backs b p → Owned b q → Owned b p → Waits b p → Intervened b q → Intervened b p → Revised b.entry b.revision → Spent b q → Trusted (apply n (Read_exclusive_owned p o) b) q
+  trusted_Read_exclusive_owned n f q p o b g h0 h1 h2 h3 h4 h5 h6 h7 h8 h9 h10 h11 h12 h13 h14 = grind (arith, nat_tests)
+
+  trusted_Read_exclusive_busy : (n : ℕ) (f : L) (q : ℕ) (p : ℕ) (b : Block L) → guard (Read_exclusive_busy p) b → Trusted b q → Asks b q → Waits b q → Asks b p → Trusted (apply n (Read_exclusive_busy p) b) q
+  trusted_Read_exclusive_busy n f q p b g h0 h1 h2 h3 = grind (arith, nat_tests)
+
+  trusted_Read_exclusive_poison : (n : ℕ) (f : L) (q : ℕ) (p : ℕ) (o : ℕ) (b : Block L) → guard (Read_exclusive_poison p o) b → Trusted b q → Asks b q → Waits b q → Asks b p → Trusted (apply n (Read_exclusive_poison p o) b) q
+  trusted_Read_exclusive_poison n f q p o b g h0 h1 h2 h3 = grind (arith, nat_tests)
+
+  trusted_Upgrade_shared : (n : ℕ) (f : L) (q : ℕ) (p : ℕ) (s : ℕ → Bool) (b : Block L) → guard (Upgrade_shared p s) b → Trusted b q → Asks b q → Waits b q → Asks b p → Trusted (apply n (Upgrade_shared p s) b) q
+  trusted_Upgrade_shared n f q p s b g h0 h1 h2 h3 = grind (arith, nat_tests)
+
+  trusted_Upgrade_grouped : (n : ℕ) (f : L) (q : ℕ) (p : ℕ) (s : ℕ → Bool) (b : Block L) → guard (Upgrade_grouped p s) b → Trusted b q → Asks b q → Waits b q → Asks b p → Trusted (apply n (Upgrade_grouped p s) b) q
+  trusted_Upgrade_grouped n f q p s b g h0 h1 h2 h3 = grind (arith, nat_tests)
+
+  trusted_Upgrade_refused : (n : ℕ) (f : L) (q : ℕ) (p : ℕ) (b : Block L) → guard (Upgrade_refused p) b → Trusted b q → Asks b q → Waits b q → Asks b p → Trusted (apply n (Upgrade_refused p) b) q
+  trusted_Upgrade_refused n f q p b g h0 h1 h2 h3 = grind (arith, nat_tests)
+
+  trusted_Upgrade_poison : (n : ℕ) (f : L) (q : ℕ) (p : ℕ) (o : ℕ) (b : Block L) → guard (Upgrade_poison p o) b → Trusted b q → Asks b q → Waits b q → Asks b p → Trusted (apply n (Upgrade_poison p o) b) q
+  trusted_Upgrade_poison n f q p o b g h0 h1 h2 h3 = grind (arith, nat_tests)
+
+  trusted_Write_back_owner : (n : ℕ) (f : L) (q : ℕ) (p : ℕ) (l : L) (b : Block L) → guard (Write_back_owner p l) b → Trusted b q → Asks b q → Waits b q → Asks b p → Rests b q → Rests b p → Backs b q → Backs b p → Owned b q → Owned b p → Waits b p → Intervened b q → Intervened b p → Revised b.entry b.revision → Spent b q → Trusted (apply n (Write_back_owner p l) b) q
+  trusted_Write_back_owner n f q p l b g h0 h1 h2 h3 h4 h5 h6 h7 h8 h9 h10 h11 h12 h13 h14 = grind (arith, nat_tests)
+
+  trusted_Write_back_busy_shared : (n : ℕ) (f : L) (q : ℕ) (p : ℕ) (r : ℕ) (l : L) (b : Block L) → guard (Write_back_busy_shared p r l) b → Trusted b q → Asks b q → Waits b q → Asks b p → Rests b q → Rests b p → Backs b q → Backs b p → Owned b q → Owned b p → Waits b p → Intervened b q → Intervened b p → Revised b.entry b.revision → Spent b q → Trusted (apply n (Write_back_busy_shared p r l) b) q
+  trusted_Write_back_busy_shared n f q p r l b g h0 h1 h2 h3 h4 h5 h6 h7 h8 h9 h10 h11 h12 h13 h14 = grind (arith, nat_tests)
+
+  trusted_Write_back_busy_exclusive : (n : ℕ) (f : L) (q : ℕ) (p : ℕ) (r : ℕ) (l : L) (b : Block L) → guard (Write_back_busy_exclusive p r l) b → Trusted b q → Asks b q → Waits b q → Asks b p → Rests b q → Rests b p → Backs b q → Backs b p → Owned b q → Owned b p → Waits b p → Intervened b q → Intervened b p → Revised b.entry b.revision → Spent b q → Trusted (apply n (Write_back_busy_exclusive p r l) b) q
+  trusted_Write_back_busy_exclusive n f q p r l b g h0 h1 h2 h3 h4 h5 h6 h7 h8 h9 h10 h11 h12 h13 h14 = grind (arith, nat_tests)
+
+  trusted_Write_back_requester : (n : ℕ) (f : L) (q : ℕ) (p : ℕ) (o : ℕ) (l : L) (b : Block L) → guard (Write_back_requester p o l) b → Trusted b q → Asks b q → Waits b q → Asks b p → Rests b q → Rests b p → Backs b q → Backs b p → Owned b q → Owned b p → Waits b p → Intervened b q → Intervened b p → Revised b.entry b.revision → Spent b q → Trusted (apply n (Write_back_requester p o l) b) q
+  trusted_Write_back_requester n f q p o l b g h0 h1 h2 h3 h4 h5 h6 h7 h8 h9 h10 h11 h12 h13 h14 = grind (arith, nat_tests)
+
+  trusted_Write_back_busy_poison : (n : ℕ) (f : L) (q : ℕ) (p : ℕ) (r : ℕ) (l : L) (b : Block L) → guard (Write_back_busy_poison p r l) b → Trusted b q → Asks b q → Waits b q → Asks b p → Rests b q → Rests b p → Backs b q → Backs b p → Owned b q → Owned b p → Waits b p → Intervened b q → Intervened b p → Revised b.entry b.revision → Spent b q → Trusted (apply n (Write_back_busy_poison p r l) b) q
+  trusted_Write_back_busy_poison n f q p r l b g h0 h1 h2 h3 h4 h5 h6 h7 h8 h9 h10 h11 h12 h13 h14 = grind (arith, nat_tests)
+
+  trusted_Revision_sharing_write_back : (n : ℕ) (f : L) (q : ℕ) (o : ℕ) (r : ℕ) (l : L) (b : Block L) → guard (Revision_sharing_write_back o r l) b → Trusted b q → Asks b q → Waits b q → Asks b o → Trusted (apply n (Revision_sharing_write_back o r l) b) q
+  trusted_Revision_sharing_write_back n f q o r l b g h0 h1 h2 h3 = grind (arith, nat_tests)
+
+  trusted_Revision_sharing_transfer : (n : ℕ) (f : L) (q : ℕ) (o : ℕ) (r : ℕ) (b : Block L) → guard (Revision_sharing_transfer o r) b → Trusted b q → Asks b q → Waits b q → Asks b o → Trusted (apply n (Revision_sharing_transfer o r) b) q
+  trusted_Revision_sharing_transfer n f q o r b g h0 h1 h2 h3 = grind (arith, nat_tests)
+
+  trusted_Revision_dirty_transfer : (n : ℕ) (f : L) (q : ℕ) (o : ℕ) (r : ℕ) (b : Block L) → guard (Revision_dirty_transfer o r) b → Trusted b q → Asks b q → Waits b q → Asks b o → Trusted (apply n (Revision_dirty_transfer o r) b) q
+  trusted_Revision_dirty_transfer n f q o r b g h0 h1 h2 h3 = grind (arith, nat_tests)
+
+  trusted_Revision_returned : (n : ℕ) (f : L) (q : ℕ) (o : ℕ) (r : ℕ) (b : Block L) → guard (Revision_returned o r) b → Trusted b q → Asks b q → Waits b q → Asks b o → Trusted (apply n (Revision_returned o r) b) q
+  trusted_Revision_returned n f q o r b g h0 h1 h2 h3 = grind (arith, nat_tests)
+
+  trusted_Revision_poison_back : (n : ℕ) (f : L) (q : ℕ) (o : ℕ) (r : ℕ) (l : L) (b : Block L) → guard (Revision_poison_back o r l) b → Trusted b q → Asks b q → Waits b q → Asks b o → Trusted (apply n (Revision_poison_back o r l) b) q
+  trusted_Revision_poison_back n f q o r l b g h0 h1 h2 h3 = grind (arith, nat_tests)
+
+  trusted_Revision_poison_clean : (n : ℕ) (f : L) (q : ℕ) (o : ℕ) (r : ℕ) (b : Block L) → guard (Revision_poison_clean o r) b → Trusted b q → Asks b q → Waits b q → Asks b o → Trusted (apply n (Revision_poison_clean o r) b) q
+  trusted_Revision_poison_clean n f q o r b g h0 h1 h2 h3 = grind (arith, nat_tests)
+
+  trusted_Poison_read_unowned : (n : ℕ) (f : L) (q : ℕ) (p : ℕ) (b : Block L) → guard (Poison_read_unowned p) b → Trusted b q → Asks b q → Waits b q → Asks b p → Trusted (apply n (Poison_read_unowned p) b) q
+  trusted_Poison_read_unowned n f q p b g h0 h1 h2 h3 = grind (arith, nat_tests)
+
+  trusted_Poison_read_shared : (n : ℕ) (f : L) (q : ℕ) (p : ℕ) (s : ℕ → Bool) (b : Block L) → guard (Poison_read_shared p s) b → Trusted b q → Asks b q → Waits b q → Asks b p → Trusted (apply n (Poison_read_shared p s) b) q
+  trusted_Poison_read_shared n f q p s b g h0 h1 h2 h3 = grind (arith, nat_tests)
+
+  trusted_Poison_read_owned : (n : ℕ) (f : L) (q : ℕ) (p : ℕ) (o : ℕ) (b : Block L) → guard (Poison_read_owned p o) b → Trusted b q → Asks b q → Waits b q → Asks b p → Rests b q → Rests b p → Backs b q → Backs b p → Owned b q → Owned b p → Waits b p → Intervened b q → Intervened b p → Revised b.entry b.revision → Spent b q → Trusted (apply n (Poison_read_owned p o) b) q
+  trusted_Poison_read_owned n f q p o b g h0 h1 h2 h3 h4 h5 h6 h7 h8 h9 h10 h11 h12 h13 h14 = grind (arith, nat_tests)
+
+  trusted_Poison_read_busy : (n : ℕ) (f : L) (q : ℕ) (p : ℕ) (b : Block L) → guard (Poison_read_busy p) b → Trusted b q → Asks b q → Waits b q → Asks b p → Trusted (apply n (Poison_read_busy p) b) q
+  trusted_Poison_read_busy n f q p b g h0 h1 h2 h3 = grind (arith, nat_tests)
+
+  trusted_Copy_in : (n : ℕ) (f : L) (q : ℕ) (p : ℕ) (v : L) (b : Block L) → guard (Copy_in p v) b → Trusted b q → Asks b q → Waits b q → Asks b p → Trusted (apply n (Copy_in p v) b) q
+  trusted_Copy_in n f q p v b g h0 h1 h2 h3 = grind (arith, nat_tests)
+
+  trusted_Fill_shared : (n : ℕ) (f : L) (q : ℕ) (p : ℕ) (l : L) (b : Block L) → guard (Fill_shared p l) b → Trusted b q → Asks b q → Waits b q → Asks b p → Rests b q → Rests b p → Backs b q → Backs b p → Owned b q → Owned b p → Waits b p → Intervened b q → Intervened b p → Revised b.entry b.revision → Spent b q → Trusted (apply n (Fill_shared p l) b) q
+  trusted_Fill_shared n f q p l b g h0 h1 h2 h3 h4 h5 h6 h7 h8 h9 h10 h11 h12 h13 h14 = grind (arith, nat_tests)
+
+  trusted_Again_shared : (n : ℕ) (f : L) (q : ℕ) (p : ℕ) (l : L) (b : Block L) → guard (Again_shared p l) b → Trusted b q → Asks b q → Waits b q → Asks b p → Trusted (apply n (Again_shared p l) b) q
+  trusted_Again_shared n f q p l b g h0 h1 h2 h3 = grind (arith, nat_tests)
+
+  trusted_Fill_clean : (n : ℕ) (f : L) (q : ℕ) (p : ℕ) (l : L) (m : Bool) (b : Block L) → guard (Fill_clean p l m) b → Trusted b q → Asks b q → Waits b q → Asks b p → Trusted (apply n (Fill_clean p l m) b) q
+  trusted_Fill_clean n f q p l m b g h0 h1 h2 h3 = grind (arith, nat_tests)
+
+  trusted_Fill_shared_answered : (n : ℕ) (f : L) (q : ℕ) (p : ℕ) (l : L) (m : L) (b : Block L) → guard (Fill_shared_answered p l m) b → Trusted b q → Asks b q → Waits b q → Asks b p → Rests b q → Rests b p → Backs b q → Backs b p → Owned b q → Owned b p → Waits b p → Intervened b q → Intervened b p → Revised b.entry b.revision → Spent b q → Trusted (apply n (Fill_shared_answered p l m) b) q
+  trusted_Fill_shared_answered n f q p l m b g h0 h1 h2 h3 h4 h5 h6 h7 h8 h9 h10 h11 h12 h13 h14 = grind (arith, nat_tests)
+
+  trusted_Fill_shared_speculative : (n : ℕ) (f : L) (q : ℕ) (p : ℕ) (m : L) (b : Block L) → guard (Fill_shared_speculative p m) b → Trusted b q → Asks b q → Waits b q → Asks b p → Rests b q → Rests b p → Backs b q → Backs b p → Owned b q → Owned b p → Waits b p → Intervened b q → Intervened b p → Revised b.entry b.revision → Spent b q → Trusted (apply n (Fill_shared_speculative p m) b) q
+  trusted_Fill_shared_speculative n f q p m b g h0 h1 h2 h3 h4 h5 h6 h7 h8 h9 h10 h11 h12 h13 h14 = grind (arith, nat_tests)
+
+  trusted_Again_speculative : (n : ℕ) (f : L) (q : ℕ) (p : ℕ) (m : L) (b : Block L) → guard (Again_speculative p m) b → Trusted b q → Asks b q → Waits b q → Asks b p → Trusted (apply n (Again_speculative p m) b) q
+  trusted_Again_speculative n f q p m b g h0 h1 h2 h3 = grind (arith, nat_tests)
+
+  trusted_Fill_exclusive : (n : ℕ) (f : L) (q : ℕ) (p : ℕ) (v : L) (l : L) (d : ℕ) (b : Block L) → guard (Fill_exclusive p v l d) b → Trusted b q → Asks b q → Waits b q → Asks b p → Trusted (apply n (Fill_exclusive p v l d) b) q
+  trusted_Fill_exclusive n f q p v l d b g h0 h1 h2 h3 = grind (arith, nat_tests)
+
+  trusted_Fill_exclusive_answered : (n : ℕ) (f : L) (q : ℕ) (p : ℕ) (v : L) (m : L) (l : L) (b : Block L) → guard (Fill_exclusive_answered p v m l) b → Trusted b q → Asks b q → Waits b q → Asks b p → Trusted (apply n (Fill_exclusive_answered p v m l) b) q
+  trusted_Fill_exclusive_answered n f q p v m l b g h0 h1 h2 h3 = grind (arith, nat_tests)
+
+  trusted_Fill_exclusive_speculative : (n : ℕ) (f : L) (q : ℕ) (p : ℕ) (v : L) (m : L) (b : Block L) → guard (Fill_exclusive_speculative p v m) b → Trusted b q → Asks b q → Waits b q → Asks b p → Trusted (apply n (Fill_exclusive_speculative p v m) b) q
+  trusted_Fill_exclusive_speculative n f q p v m b g h0 h1 h2 h3 = grind (arith, nat_tests)
+
+  trusted_Fill_upgrade : (n : ℕ) (f : L) (q : ℕ) (p : ℕ) (v : L) (l : L) (d : ℕ) (b : Block L) → guard (Fill_upgrade p v l d) b → Trusted b q → Asks b q → Waits b q → Asks b p → Trusted (apply n (Fill_upgrade p v l d) b) q
+  trusted_Fill_upgrade n f q p v l d b g h0 h1 h2 h3 = grind (arith, nat_tests)
+
+  trusted_Fill_upgrade_line : (n : ℕ) (f : L) (q : ℕ) (p : ℕ) (v : L) (l : L) (d : ℕ) (b : Block L) → guard (Fill_upgrade_line p v l d) b → Trusted b q → Asks b q → Waits b q → Asks b p → Trusted (apply n (Fill_upgrade_line p v l d) b) q
+  trusted_Fill_upgrade_line n f q p v l d b g h0 h1 h2 h3 = grind (arith, nat_tests)
+
+  trusted_Again_refused : (n : ℕ) (f : L) (q : ℕ) (p : ℕ) (b : Block L) → guard (Again_refused p) b → Trusted b q → Asks b q → Waits b q → Asks b p → Trusted (apply n (Again_refused p) b) q
+  trusted_Again_refused n f q p b g h0 h1 h2 h3 = grind (arith, nat_tests)
+
+  trusted_Again_upgrade_refused : (n : ℕ) (f : L) (q : ℕ) (p : ℕ) (b : Block L) → guard (Again_upgrade_refused p) b → Trusted b q → Asks b q → Waits b q → Asks b p → Trusted (apply n (Again_upgrade_refused p) b) q
+  trusted_Again_upgrade_refused n f q p b g h0 h1 h2 h3 = grind (arith, nat_tests)
+
+  trusted_Poisoned : (n : ℕ) (f : L) (q : ℕ) (p : ℕ) (b : Block L) → guard (Poisoned p) b → Trusted b q → Asks b q → Waits b q → Asks b p → Trusted (apply n (Poisoned p) b) q
+  trusted_Poisoned n f q p b g h0 h1 h2 h3 = grind (arith, nat_tests)
+
+  trusted_Poison_collected : (n : ℕ) (f : L) (q : ℕ) (p : ℕ) (l : L) (d : ℕ) (b : Block L) → guard (Poison_collected p l d) b → Trusted b q → Asks b q → Waits b q → Asks b p → Trusted (apply n (Poison_collected p l d) b) q
+  trusted_Poison_collected n f q p l d b g h0 h1 h2 h3 = grind (arith, nat_tests)
+
+  trusted_Invalidated : (n : ℕ) (f : L) (q : ℕ) (p : ℕ) (r : ℕ) (b : Block L) → guard (Invalidated p r) b → Trusted b q → Asks b q → Waits b q → Asks b p → Trusted (apply n (Invalidated p r) b) q
+  trusted_Invalidated n f q p r b g h0 h1 h2 h3 = grind (arith, nat_tests)
+
+  trusted_Acknowledged : (n : ℕ) (f : L) (q : ℕ) (p : ℕ) (r : ℕ) (b : Block L) → guard (Acknowledged p r) b → Trusted b q → Asks b q → Waits b q → Asks b p → Trusted (apply n (Acknowledged p r) b) q
+  trusted_Acknowledged n f q p r b g h0 h1 h2 h3 = grind (arith, nat_tests)
+
+  trusted_Intervention_shared_dirty : (n : ℕ) (f : L) (q : ℕ) (p : ℕ) (r : ℕ) (l : L) (b : Block L) → guard (Intervention_shared_dirty p r l) b → Trusted b q → Asks b q → Waits b q → Asks b p → Rests b q → Rests b p → Backs b q → Backs b p → Owned b q → Owned b p → Waits b p → Intervened b q → Intervened b p → Revised b.entry b.revision → Spent b q → Trusted (apply n (Intervention_shared_dirty p r l) b) q
+  trusted_Intervention_shared_dirty n f q p r l b g h0 h1 h2 h3 h4 h5 h6 h7 h8 h9 h10 h11 h12 h13 h14 = grind (arith, nat_tests)
+
+  trusted_Intervention_shared_clean : (n : ℕ) (f : L) (q : ℕ) (p : ℕ) (r : ℕ) (l : L) (b : Block L) → guard (Intervention_shared_clean p r l) b → Trusted b q → Asks b q → Waits b q → Asks b p → Rests b q → Rests b p → Backs b q → Backs b p → Owned b q → Owned b p → Waits b p → Intervened b q → Intervened b p → Revised b.entry b.revision → Spent b q → Trusted (apply n (Intervention_shared_clean p r l) b) q
+  trusted_Intervention_shared_clean n f q p r l b g h0 h1 h2 h3 h4 h5 h6 h7 h8 h9 h10 h11 h12 h13 h14 = grind (arith, nat_tests)
+
+  trusted_Intervention_shared_none : (n : ℕ) (f : L) (q : ℕ) (p : ℕ) (r : ℕ) (b : Block L) → guard (Intervention_shared_none p r) b → Trusted b q → Asks b q → Waits b q → Asks b p → Rests b q → Rests b p → Backs b q → Backs b p → Owned b q → Owned b p → Waits b p → Intervened b q → Intervened b p → Revised b.entry b.revision → Spent b q → Trusted (apply n (Intervention_shared_none p r) b) q
+  trusted_Intervention_shared_none n f q p r b g h0 h1 h2 h3 h4 h5 h6 h7 h8 h9 h10 h11 h12 h13 h14 = grind (arith, nat_tests)
+
+  trusted_Intervention_exclusive_dirty : (n : ℕ) (f : L) (q : ℕ) (p : ℕ) (r : ℕ) (l : L) (b : Block L) → guard (Intervention_exclusive_dirty p r l) b → Trusted b q → Asks b q → Waits b q → Asks b p → Rests b q → Rests b p → Backs b q → Backs b p → Owned b q → Owned b p → Waits b p → Intervened b q → Intervened b p → Revised b.entry b.revision → Spent b q → Trusted (apply n (Intervention_exclusive_dirty p r l) b) q
+  trusted_Intervention_exclusive_dirty n f q p r l b g h0 h1 h2 h3 h4 h5 h6 h7 h8 h9 h10 h11 h12 h13 h14 = grind (arith, nat_tests)
+
+  trusted_Intervention_exclusive_clean : (n : ℕ) (f : L) (q : ℕ) (p : ℕ) (r : ℕ) (b : Block L) → guard (Intervention_exclusive_clean p r) b → Trusted b q → Asks b q → Waits b q → Asks b p → Rests b q → Rests b p → Backs b q → Backs b p → Owned b q → Owned b p → Waits b p → Intervened b q → Intervened b p → Revised b.entry b.revision → Spent b q → Trusted (apply n (Intervention_exclusive_clean p r) b) q
+  trusted_Intervention_exclusive_clean n f q p r b g h0 h1 h2 h3 h4 h5 h6 h7 h8 h9 h10 h11 h12 h13 h14 = grind (arith, nat_tests)
+
+  trusted_Intervention_poison_dirty : (n : ℕ) (f : L) (q : ℕ) (p : ℕ) (r : ℕ) (l : L) (b : Block L) → guard (Intervention_poison_dirty p r l) b → Trusted b q → Asks b q → Waits b q → Asks b p → Rests b q → Rests b p → Backs b q → Backs b p → Owned b q → Owned b p → Waits b p → Intervened b q → Intervened b p → Revised b.entry b.revision → Spent b q → Trusted (apply n (Intervention_poison_dirty p r l) b) q
+  trusted_Intervention_poison_dirty n f q p r l b g h0 h1 h2 h3 h4 h5 h6 h7 h8 h9 h10 h11 h12 h13 h14 = grind (arith, nat_tests)
+
+  trusted_Intervention_poison_clean : (n : ℕ) (f : L) (q : ℕ) (p : ℕ) (r : ℕ) (b : Block L) → guard (Intervention_poison_clean p r) b → Trusted b q → Asks b q → Waits b q → Asks b p → Rests b q → Rests b p → Backs b q → Backs b p → Owned b q → Owned b p → Waits b p → Intervened b q → Intervened b p → Revised b.entry b.revision → Spent b q → Trusted (apply n (Intervention_poison_clean p r) b) q
+  trusted_Intervention_poison_clean n f q p r b g h0 h1 h2 h3 h4 h5 h6 h7 h8 h9 h10 h11 h12 h13 h14 = grind (arith, nat_tests)
+
+  trusted_Send_poison_read : (n : ℕ) (f : L) (q : ℕ) (p : ℕ) (b : Block L) → guard (Send_poison_read p) b → Trusted b q → Asks b q → Waits b q → Asks b p → Trusted (apply n (Send_poison_read p) b) q
+  trusted_Send_poison_read n f q p b g h0 h1 h2 h3 = grind (arith, nat_tests)
+
+  pub trusted_kept : (n : ℕ) (f : L) (q : ℕ) (b : Block L) (r : Row L) → guard r b → Invariant n f b → actor_of r < n → q < n → Home n f b → Local n f b (actor_of r) → Local n f b q → Trusted (apply n r b) q
+  trusted_kept n f q b (Send_read p) g inv lp lq home hp hq = trusted_Send_read n f q p b g hq.trusted hq.asks hq.waits hp.asks
+  trusted_kept n f q b (Send_read_exclusive p) g inv lp lq home hp hq = trusted_Send_read_exclusive n f q p b g hq.trusted hq.asks hq.waits hp.asks
+  trusted_kept n f q b (Send_upgrade p l) g inv lp lq home hp hq = trusted_Send_upgrade n f q p l b g hq.trusted hq.asks hq.waits hp.asks
+  trusted_kept n f q b (Load_shared p l) g inv lp lq home hp hq = hq.trusted
+  trusted_kept n f q b (Load_clean p l) g inv lp lq home hp hq = hq.trusted
+  trusted_kept n f q b (Load_dirty p l) g inv lp lq home hp hq = hq.trusted
+  trusted_kept n f q b (Store p v l) g inv lp lq home hp hq = trusted_Store n f q p v l b g hq.trusted hq.asks hq.waits hp.asks
+  trusted_kept n f q b (Forget p) g inv lp lq home hp hq = trusted_Forget n f q p b g hq.trusted hq.asks hq.waits hp.asks
+  trusted_kept n f q b (Evict p l) g inv lp lq home hp hq = trusted_Evict n f q p l b g hq.trusted hq.asks hq.waits hp.asks
+  trusted_kept n f q b (Read_unowned p) g inv lp lq home hp hq = trusted_Read_unowned n f q p b g hq.trusted hq.asks hq.waits hp.asks
+  trusted_kept n f q b (Read_shared p s) g inv lp lq home hp hq = trusted_Read_shared n f q p s b g hq.trusted hq.asks hq.waits hp.asks
+  trusted_kept n f q b (Read_by_owner p) g inv lp lq home hp hq = trusted_Read_by_owner n f q p b g hq.trusted hq.asks hq.waits hp.asks
+  trusted_kept n f q b (Read_owned p o) g inv lp lq home hp hq = trusted_Read_owned n f q p o b g hq.trusted hq.asks hq.waits hp.asks
+  trusted_kept n f q b (Read_busy p) g inv lp lq home hp hq = trusted_Read_busy n f q p b g hq.trusted hq.asks hq.waits hp.asks
+  trusted_kept n f q b (Read_poison p o) g inv lp lq home hp hq = trusted_Read_poison n f q p o b g hq.trusted hq.asks hq.waits hp.asks
+  trusted_kept n f q b (Read_exclusive_unowned p) g inv lp lq home hp hq = trusted_Read_exclusive_unowned n f q p b g hq.trusted hq.asks hq.waits hp.asks
+  trusted_kept n f q b (Read_exclusive_shared p s) g inv lp lq home hp hq = trusted_Read_exclusive_shared n f q p s b g hq.trusted hq.asks hq.waits hp.asks
+  trusted_kept n f q b (Read_exclusive_by_owner p) g inv lp lq home hp hq = trusted_Read_exclusive_by_owner n f q p b g hq.trusted hq.asks hq.waits hp.asks
+  trusted_kept n f q b (Read_exclusive_owned p o) g inv lp lq home hp hq = trusted_Read_exclusive_owned n f q p o b g hq.trusted hq.asks hq.waits hp.asks hq.rests hp.rests hq.backs hp.backs hq.owned hp.owned hp.waits hq.intervened hp.intervened home.revised hq.spent
+  trusted_kept n f q b (Read_exclusive_busy p) g inv lp lq home hp hq = trusted_Read_exclusive_busy n f q p b g hq.trusted hq.asks hq.waits hp.asks
+  trusted_kept n f q b (Read_exclusive_poison p o) g inv lp lq home hp hq = trusted_Read_exclusive_poison n f q p o b g hq.trusted hq.asks hq.waits hp.asks
+  trusted_kept n f q b (Upgrade_shared p s) g inv lp lq home hp hq = trusted_Upgrade_shared n f q p s b g hq.trusted hq.asks hq.waits hp.asks
+  trusted_kept n f q b (Upgrade_grouped p s) g inv lp lq home hp hq = trusted_Upgrade_grouped n f q p s b g hq.trusted hq.asks hq.waits hp.asks
+  trusted_kept n f q b (Upgrade_refused p) g inv lp lq home hp hq = trusted_Upgrade_refused n f q p b g hq.trusted hq.asks hq.waits hp.asks
+  trusted_kept n f q b (Upgrade_poison p o) g inv lp lq home hp hq = trusted_Upgrade_poison n f q p o b g hq.trusted hq.asks hq.waits hp.asks
+  trusted_kept n f q b (Write_back_owner p l) g inv lp lq home hp hq = trusted_Write_back_owner n f q p l b g hq.trusted hq.asks hq.waits hp.asks hq.rests hp.rests hq.backs hp.backs hq.owned hp.owned hp.waits hq.intervened hp.intervened home.revised hq.spent
+  trusted_kept n f q b (Write_back_busy_shared p r l) g inv lp lq home hp hq = trusted_Write_back_busy_shared n f q p r l b g hq.trusted hq.asks hq.waits hp.asks hq.rests hp.rests hq.backs hp.backs hq.owned hp.owned hp.waits hq.intervened hp.intervened home.revised hq.spent
+  trusted_kept n f q b (Write_back_busy_exclusive p r l) g inv lp lq home hp hq = trusted_Write_back_busy_exclusive n f q p r l b g hq.trusted hq.asks hq.waits hp.asks hq.rests hp.rests hq.backs hp.backs hq.owned hp.owned hp.waits hq.intervened hp.intervened home.revised hq.spent
+  trusted_kept n f q b (Write_back_requester p o l) g inv lp lq home hp hq = trusted_Write_back_requester n f q p o l b g hq.trusted hq.asks hq.waits hp.asks hq.rests hp.rests hq.backs hp.backs hq.owned hp.owned hp.waits hq.intervened hp.intervened home.revised hq.spent
+  trusted_kept n f q b (Write_back_busy_poison p r l) g inv lp lq home hp hq = trusted_Write_back_busy_poison n f q p r l b g hq.trusted hq.asks hq.waits hp.asks hq.rests hp.rests hq.backs hp.backs hq.owned hp.owned hp.waits hq.intervened hp.intervened home.revised hq.spent
+  trusted_kept n f q b (Revision_sharing_write_back o r l) g inv lp lq home hp hq = trusted_Revision_sharing_write_back n f q o r l b g hq.trusted hq.asks hq.waits hp.asks
+  trusted_kept n f q b (Revision_sharing_transfer o r) g inv lp lq home hp hq = trusted_Revision_sharing_transfer n f q o r b g hq.trusted hq.asks hq.waits hp.asks
+  trusted_kept n f q b (Revision_dirty_transfer o r) g inv lp lq home hp hq = trusted_Revision_dirty_transfer n f q o r b g hq.trusted hq.asks hq.waits hp.asks
+  trusted_kept n f q b (Revision_returned o r) g inv lp lq home hp hq = trusted_Revision_returned n f q o r b g hq.trusted hq.asks hq.waits hp.asks
+  trusted_kept n f q b (Revision_poison_back o r l) g inv lp lq home hp hq = trusted_Revision_poison_back n f q o r l b g hq.trusted hq.asks hq.waits hp.asks
+  trusted_kept n f q b (Revision_poison_clean o r) g inv lp lq home hp hq = trusted_Revision_poison_clean n f q o r b g hq.trusted hq.asks hq.waits hp.asks
+  trusted_kept n f q b (Poison_read_unowned p) g inv lp lq home hp hq = trusted_Poison_read_unowned n f q p b g hq.trusted hq.asks hq.waits hp.asks
+  trusted_kept n f q b (Poison_read_shared p s) g inv lp lq home hp hq = trusted_Poison_read_shared n f q p s b g hq.trusted hq.asks hq.waits hp.asks
+  trusted_kept n f q b (Poison_read_owned p o) g inv lp lq home hp hq = trusted_Poison_read_owned n f q p o b g hq.trusted hq.asks hq.waits hp.asks hq.rests hp.rests hq.backs hp.backs hq.owned hp.owned hp.waits hq.intervened hp.intervened home.revised hq.spent
+  trusted_kept n f q b (Poison_read_busy p) g inv lp lq home hp hq = trusted_Poison_read_busy n f q p b g hq.trusted hq.asks hq.waits hp.asks
+  trusted_kept n f q b (Copy_in p v) g inv lp lq home hp hq = trusted_Copy_in n f q p v b g hq.trusted hq.asks hq.waits hp.asks
+  trusted_kept n f q b (Fill_shared p l) g inv lp lq home hp hq = trusted_Fill_shared n f q p l b g hq.trusted hq.asks hq.waits hp.asks hq.rests hp.rests hq.backs hp.backs hq.owned hp.owned hp.waits hq.intervened hp.intervened home.revised hq.spent
+  trusted_kept n f q b (Again_shared p l) g inv lp lq home hp hq = trusted_Again_shared n f q p l b g hq.trusted hq.asks hq.waits hp.asks
+  trusted_kept n f q b (Fill_clean p l m) g inv lp lq home hp hq = trusted_Fill_clean n f q p l m b g hq.trusted hq.asks hq.waits hp.asks
+  trusted_kept n f q b (Fill_shared_answered p l m) g inv lp lq home hp hq = trusted_Fill_shared_answered n f q p l m b g hq.trusted hq.asks hq.waits hp.asks hq.rests hp.rests hq.backs hp.backs hq.owned hp.owned hp.waits hq.intervened hp.intervened home.revised hq.spent
+  trusted_kept n f q b (Fill_shared_speculative p m) g inv lp lq home hp hq = trusted_Fill_shared_speculative n f q p m b g hq.trusted hq.asks hq.waits hp.asks hq.rests hp.rests hq.backs hp.backs hq.owned hp.owned hp.waits hq.intervened hp.intervened home.revised hq.spent
+  trusted_kept n f q b (Again_speculative p m) g inv lp lq home hp hq = trusted_Again_speculative n f q p m b g hq.trusted hq.asks hq.waits hp.asks
+  trusted_kept n f q b (Fill_exclusive p v l d) g inv lp lq home hp hq = trusted_Fill_exclusive n f q p v l d b g hq.trusted hq.asks hq.waits hp.asks
+  trusted_kept n f q b (Fill_exclusive_answered p v m l) g inv lp lq home hp hq = trusted_Fill_exclusive_answered n f q p v m l b g hq.trusted hq.asks hq.waits hp.asks
+  trusted_kept n f q b (Fill_exclusive_speculative p v m) g inv lp lq home hp hq = trusted_Fill_exclusive_speculative n f q p v m b g hq.trusted hq.asks hq.waits hp.asks
+  trusted_kept n f q b (Fill_upgrade p v l d) g inv lp lq home hp hq = trusted_Fill_upgrade n f q p v l d b g hq.trusted hq.asks hq.waits hp.asks
+  trusted_kept n f q b (Fill_upgrade_line p v l d) g inv lp lq home hp hq = trusted_Fill_upgrade_line n f q p v l d b g hq.trusted hq.asks hq.waits hp.asks
+  trusted_kept n f q b (Again_refused p) g inv lp lq home hp hq = trusted_Again_refused n f q p b g hq.trusted hq.asks hq.waits hp.asks
+  trusted_kept n f q b (Again_upgrade_refused p) g inv lp lq home hp hq = trusted_Again_upgrade_refused n f q p b g hq.trusted hq.asks hq.waits hp.asks
+  trusted_kept n f q b (Poisoned p) g inv lp lq home hp hq = trusted_Poisoned n f q p b g hq.trusted hq.asks hq.waits hp.asks
+  trusted_kept n f q b (Poison_collected p l d) g inv lp lq home hp hq = trusted_Poison_collected n f q p l d b g hq.trusted hq.asks hq.waits hp.asks
+  trusted_kept n f q b (Invalidated p r) g inv lp lq home hp hq = trusted_Invalidated n f q p r b g hq.trusted hq.asks hq.waits hp.asks
+  trusted_kept n f q b (Acknowledged p r) g inv lp lq home hp hq = trusted_Acknowledged n f q p r b g hq.trusted hq.asks hq.waits hp.asks
+  trusted_kept n f q b (Intervention_victim_busy p) g inv lp lq home hp hq = hq.trusted
+  trusted_kept n f q b (Intervention_victim_first p) g inv lp lq home hp hq = hq.trusted
+  trusted_kept n f q b (Intervention_shared_dirty p r l) g inv lp lq home hp hq = trusted_Intervention_shared_dirty n f q p r l b g hq.trusted hq.asks hq.waits hp.asks hq.rests hp.rests hq.backs hp.backs hq.owned hp.owned hp.waits hq.intervened hp.intervened home.revised hq.spent
+  trusted_kept n f q b (Intervention_shared_clean p r l) g inv lp lq home hp hq = trusted_Intervention_shared_clean n f q p r l b g hq.trusted hq.asks hq.waits hp.asks hq.rests hp.rests hq.backs hp.backs hq.owned hp.owned hp.waits hq.intervened hp.intervened home.revised hq.spent
+  trusted_kept n f q b (Intervention_shared_none p r) g inv lp lq home hp hq = trusted_Intervention_shared_none n f q p r b g hq.trusted hq.asks hq.waits hp.asks hq.rests hp.rests hq.backs hp.backs hq.owned hp.owned hp.waits hq.intervened hp.intervened home.revised hq.spent
+  trusted_kept n f q b (Intervention_exclusive_dirty p r l) g inv lp lq home hp hq = trusted_Intervention_exclusive_dirty n f q p r l b g hq.trusted hq.asks hq.waits hp.asks hq.rests hp.rests hq.backs hp.backs hq.owned hp.owned hp.waits hq.intervened hp.intervened home.revised hq.spent
+  trusted_kept n f q b (Intervention_exclusive_clean p r) g inv lp lq home hp hq = trusted_Intervention_exclusive_clean n f q p r b g hq.trusted hq.asks hq.waits hp.asks hq.rests hp.rests hq.backs hp.backs hq.owned hp.owned hp.waits hq.intervened hp.intervened home.revised hq.spent
+  trusted_kept n f q b (Intervention_poison_dirty p r l) g inv lp lq home hp hq = trusted_Intervention_poison_dirty n f q p r l b g hq.trusted hq.asks hq.waits hp.asks hq.rests hp.rests hq.backs hp.backs hq.owned hp.owned hp.waits hq.intervened hp.intervened home.revised hq.spent
+  trusted_kept n f q b (Intervention_poison_clean p r) g inv lp lq home hp hq = trusted_Intervention_poison_clean n f q p r b g hq.trusted hq.asks hq.waits hp.asks hq.rests hp.rests hq.backs hp.backs hq.owned hp.owned hp.waits hq.intervened hp.intervened home.revised hq.spent
+  trusted_kept n f q b (Write_back_ack p) g inv lp lq home hp hq = hq.trusted
+  trusted_kept n f q b (Write_back_busy_ack_seen p) g inv lp lq home hp hq = hq.trusted
+  trusted_kept n f q b (Write_back_busy_ack_first p) g inv lp lq home hp hq = hq.trusted
+  trusted_kept n f q b (Send_poison_read p) g inv lp lq home hp hq = trusted_Send_poison_read n f q p b g hq.trusted hq.asks hq.waits hp.asks

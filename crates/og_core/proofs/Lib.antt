@@ -1,0 +1,10 @@
+pub mod Begin
+pub mod Sound
+pub mod Blocks
+pub mod Steps
+pub mod Kept
+pub mod Worlds
+pub mod Starts
+pub mod Flats
+pub mod Reached
+pub mod Machines

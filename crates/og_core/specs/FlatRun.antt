@@ -1,0 +1,96 @@
+-- A flat run: what harts do when their accesses are made one at a time on one flat memory, in the order of a list. It
+-- knows nothing of caches, messages, frames or moves.
+use Rattle.std.specs.Prelude.{◌≡◌, ℕ, zero, suc, ◌+◌, Bool, true, false, nat_eq, List, [], ◌∷◌, cond}
+use Rattle.std.proofs.Common.{Option, None, Some}
+use Rattle.og_base.specs.declared.Cause.{Cause}
+use Rattle.og_line.specs.declared.Access.{Access}
+use Rattle.og_flat.specs.Flat.{Flat, flat_answer, flat_next, flat_start}
+use Rattle.og_runs.specs.declared.Event.{Event}
+use Rattle.rv_hart.specs.declared.hart.Need.{Need}
+use Rattle.rv_hart.specs.declared.hart.Need.TheVariants as need
+use Rattle.rv_hart.specs.Hart.{HartState, start_of, need_of, finish_of, halt_of}
+use Rattle.rv_hart.specs.Image.{ImageState, start_byte}
+use Rattle.og_core.specs.declared.msg.Note.{Note}
+use Rattle.og_core.specs.declared.msg.Note.TheVariants as note
+use Rattle.og_core.specs.Node.{stop_note}
+use Rattle.og_core.specs.Start.{stack_end}
+
+-- a hart finishes instructions while it needs nothing; each uses one up, so it has come as far after as many as are left
+abbrev pub goes_on : Need → Bool
+goes_on need.Plain = true
+goes_on other = false
+
+unfoldable pub settled_within : ImageState → ℕ → HartState → HartState
+settled_within image zero h = h
+settled_within image (suc more) h = cond (goes_on (need_of image h)) (settled_within image more (finish_of image h 0)) h
+
+abbrev pub settled : ImageState → HartState → HartState
+settled image h = settled_within image h.left h
+
+-- all harts and the memory
+pub record FlatState : Type 0 where
+  pub harts : ℕ → HartState
+  pub flat : Flat
+
+abbrev pub with_hart : (ℕ → HartState) → ℕ → HartState → ℕ → HartState
+with_hart harts p h q = cond (nat_eq q p) h (harts q)
+
+-- a hart that needs this may have this entry in the list
+abbrev pub Entry : FlatState → ℕ → HartState → Need → Note → Type 0
+Entry s p h (need.Access access) (note.Access made answer) = (made ≡ access) × (answer ≡ flat_answer s.flat p access)
+Entry s p h (need.Emit value) (note.Emit emitted) = emitted ≡ value
+Entry s p h (need.Stop cause) noted = noted ≡ stop_note cause h.pc
+Entry s p h other noted = ⊥
+
+-- what the entry leaves of the hart and of the memory
+abbrev pub hart_next : ImageState → HartState → Need → Note → HartState
+hart_next image h (need.Stop cause) noted = halt_of image h
+hart_next image h other (note.Access made answer) = finish_of image h answer
+hart_next image h other noted = finish_of image h 0
+
+abbrev pub memory_next : Flat → ℕ → Note → Flat
+memory_next flat p (note.Access made answer) = flat_next flat p made
+memory_next flat p other = flat
+
+abbrev pub flat_step : ImageState → FlatState → ℕ → Note → FlatState
+flat_step image s p noted = record {
+  harts = with_hart s.harts p (hart_next image (settled image (s.harts p)) (need_of image (settled image (s.harts p))) noted);
+  flat = memory_next s.flat p noted;
+}
+
+-- the entries are what the harts do, one after another: each is of a hart that isn't stopped, after it has finished
+-- what needs nothing
+abbrev pub FlatRunFrom : ImageState → FlatState → List (ℕ × Note) → Type 0
+FlatRunFrom image s [] = Unit {0}
+FlatRunFrom image s (entry ∷ entries) =
+    ((s.harts entry.0).cause ≡ None) × Entry s entry.0 (settled image (s.harts entry.0)) (need_of image (settled image (s.harts entry.0))) entry.1
+    × FlatRunFrom image (flat_step image s entry.0 entry.1) entries
+
+-- all harts at their entry, and memory as the program says
+abbrev pub flat_begin : ImageState → ℕ → FlatState
+flat_begin image instructions = record {
+  harts = λ p. start_of image.entry p image.nodes (stack_end p) instructions;
+  flat = flat_start (start_byte image);
+}
+
+abbrev pub FlatRun : ImageState → ℕ → List (ℕ × Note) → Type 0
+FlatRun image instructions entries = FlatRunFrom image (flat_begin image instructions) entries
+
+-- ------------------------------------------------------------ the notes of harts in a list of events
+
+abbrev pub of_hart : Note → Bool
+of_hart (note.Access access answer) = true
+of_hart (note.Emit value) = true
+of_hart (note.Exit value) = true
+of_hart (note.Trap cause pc) = true
+of_hart note.Spent = true
+of_hart other = false
+
+abbrev pub with_note : ℕ → Option Note → List (ℕ × Note) → List (ℕ × Note)
+with_note p None entries = entries
+with_note p (Some noted) entries = cond (of_hart noted) ((p, noted) ∷ entries) entries
+
+-- what harts did, in the order of the events
+abbrev pub hart_notes : List (Event Note) → List (ℕ × Note)
+hart_notes [] = []
+hart_notes (event ∷ events) = with_note event.stamp.actor event.note (hart_notes events)

@@ -1,0 +1,5 @@
+pub mod Node
+pub mod Start
+pub mod Machine
+pub mod FlatRun
+pub mod HartRuns

@@ -1,0 +1,190 @@
+//! The machine: its actors, the messages in flight, and one step.
+
+ghost use Rattle.std.specs.Prelude.{◌≡◌, ◌≢◌, ℕ, ◌+◌, ◌*◌, ◌<◌, ◌≤◌, ◌^◌, ◌++◌, ◌⊎◌, length, slice_get, Option, Some, None, IfOk, OnOk, IfErr, OnErr, vec_len, vec_capacity};
+ghost use Rattle.og_runs.specs.Runs.{posted};
+ghost use Rattle.og_runs.specs.World.{world_step};
+ghost use Rattle.og_runs.specs.declared.Choice.TheVariants.{Act, Take};
+ghost use Rattle.rv_hart.specs.Layout.{layout_of, pages_of};
+ghost use Rattle.og_core.specs.Node.{letters_of, setup_of, rules, act_of, take_of, IsYoung, IsLow};
+ghost use Rattle.og_core.specs.Machine.{MachineState, Moves, setup_in, start_world, IsFor, IsMade, IsYoungWorld, refusal_of, is_stopped, is_quiet};
+
+use crate::msg::{Event, Msg};
+use crate::node::{Done, Node};
+use og_base::{
+    ActorId, Choice, MsgId, NoMemory, NotEnabled, Settings, Stamp, act_stamp, take_stamp,
+};
+use og_runs::{Seat, look, pull};
+use rv_hart::image::Image;
+use rv_hart::layout::{Layout, LayoutFault};
+use std::alloc::Global;
+use std::marker::Model;
+
+/// A machine. Actor a is node a.
+#[derive(Drop)]
+pub struct Machine {
+    layout: Layout,
+    frames: u16,
+    instructions: u32,
+    seats: Vec<Seat<Node>>,
+    messages: Vec<Msg>,
+}
+
+impl Model for Machine {
+    ghost use Rattle.og_core.specs.Machine.{MachineState};
+
+    ghost Value = { MachineState };
+
+    ghost view = { λ m. record { layout = m.layout; frames = m.frames; instructions = m.instructions; world = record { seats = m.seats.items; flight = m.messages.items } } };
+}
+
+/// Ends an event of an actor: its clock becomes the event's, and its letter a message in flight.
+fn settle(seat: &mut Seat<Node>, messages: &mut Vec<Msg>, stamp: Stamp, done: &Done)
+    requires room { vec_len messages.old < vec_capacity messages.old }
+    requires low { seat.old.next < 2 ^ 56 }
+    ensures seat { seat.new ≡ record { local = seat.old.local; clock = stamp.clock; next = seat.old.next + length (letters_of done.now.letter) } }
+    ensures sent { messages.new.items ≡ messages.old.items ++ posted stamp.actor stamp.clock seat.old.next (letters_of done.now.letter) }
+{
+    seat.clock = stamp.clock;
+    if let Some(letter) = done.letter {
+        let id = MsgId {
+            sender: stamp.actor,
+            seq: seat.next,
+        };
+        messages.push_reserved(Msg {
+            id,
+            to: letter.to,
+            stamp,
+            kind: letter.kind,
+        });
+        seat.next += 1;
+    }
+}
+
+/// An actor's own next event.
+fn act_at(
+    seat: &mut Seat<Node>,
+    messages: &mut Vec<Msg>,
+    image: &Image,
+    layout: &Layout,
+    frames: u16,
+    actor: ActorId,
+) -> Event
+    requires enabled { act_of (setup_of image.now layout.now frames) seat.old.local ≢ None }
+    requires young { (seat.old.clock < 2 ^ 56) × (seat.old.next < 2 ^ 56) × IsYoung seat.old.local }
+    requires room { vec_len messages.old < vec_capacity messages.old }
+    ensures { Moves actor None (act_of (setup_of image.now layout.now frames) seat.old.local) seat.old seat.new messages.old.items messages.new.items result }
+{
+    let stamp = act_stamp(seat.clock, actor);
+    let done = seat.local.act(image, layout, frames);
+    settle(seat, messages, stamp, &done);
+    Event {
+        choice: Choice::Act(actor),
+        stamp,
+        note: done.note,
+    }
+}
+
+/// The event in which an actor takes a message.
+fn take_at(
+    seat: &mut Seat<Node>,
+    messages: &mut Vec<Msg>,
+    image: &Image,
+    layout: &Layout,
+    frames: u16,
+    message: &Msg,
+) -> Event
+    requires row { take_of (setup_of image.now layout.now frames) message.now.to seat.old.local message.now ≢ None }
+    requires running { seat.old.local.hart.cause ≡ None }
+    requires young { (seat.old.clock < 2 ^ 56) × (seat.old.next < 2 ^ 56) × IsYoung seat.old.local }
+    requires low { (message.now.stamp.clock < 2 ^ 56) × IsLow message.now.kind }
+    requires room { vec_len messages.old < vec_capacity messages.old }
+    ensures { Moves message.now.to (Some message.now) (take_of (setup_of image.now layout.now frames) message.now.to seat.old.local message.now) seat.old seat.new messages.old.items messages.new.items result }
+{
+    let _taken = pull(messages, message.id);
+    let stamp = take_stamp(seat.clock, message.stamp, message.to);
+    let done = seat.local.take(image, layout, frames, message.to, message);
+    settle(seat, messages, stamp, &done);
+    Event {
+        choice: Choice::Take(message.to, message.id),
+        stamp,
+        note: done.note,
+    }
+}
+
+impl Machine {
+    fn act(&mut self, image: &Image, actor: ActorId) -> Result<Event, NotEnabled>
+        requires made { IsMade image.now self.old }
+        requires young { IsYoungWorld self.old.world }
+        ensures made { IfOk result (λ event. world_step (rules (setup_in image.now self.old)) self.old.world (Act actor) ≡ Some (self.new.world, event)) }
+        ensures kept { OnOk result (self.new ≡ record self.old { world = self.new.world }) }
+        ensures enabled { OnOk result (refusal_of self.old.world (Act actor) ≡ None) }
+        ensures refused { IfErr result (λ why. (why ≡ NotEnabled.Memory) ⊎ (refusal_of self.old.world (Act actor) ≡ Some why)) }
+        ensures unchanged { OnErr result (self.new ≡ self.old) }
+    {
+        let at = usize::from(actor);
+        if at >= self.seats.len() {
+            return Err(NotEnabled::NoActor);
+        }
+        self.seats[at].local.can_act()?;
+        if self.messages.try_reserve(1).is_err() {
+            return Err(NotEnabled::Memory);
+        }
+        Ok(act_at(
+            &mut self.seats[at],
+            &mut self.messages,
+            image,
+            &self.layout,
+            self.frames,
+            actor,
+        ))
+    }
+
+    fn take(&mut self, image: &Image, actor: ActorId, id: MsgId) -> Result<Event, NotEnabled>
+        requires made { IsMade image.now self.old }
+        requires young { IsYoungWorld self.old.world }
+        ensures made { IfOk result (λ event. world_step (rules (setup_in image.now self.old)) self.old.world (Take actor id) ≡ Some (self.new.world, event)) }
+        ensures kept { OnOk result (self.new ≡ record self.old { world = self.new.world }) }
+        ensures enabled { OnOk result (refusal_of self.old.world (Take actor id) ≡ None) }
+        ensures refused { IfErr result (λ why. (why ≡ NotEnabled.Memory) ⊎ (refusal_of self.old.world (Take actor id) ≡ Some why)) }
+        ensures unchanged { OnErr result (self.new ≡ self.old) }
+    {
+        let at = usize::from(actor);
+        if at >= self.seats.len() {
+            return Err(NotEnabled::NoActor);
+        }
+        let message = match look(&self.messages, id) {
+            Some(message) => message,
+            None => return Err(NotEnabled::NoMessage),
+        };
+        if message.to != actor {
+            return Err(NotEnabled::NoMessage);
+        }
+        if self.messages.try_reserve(1).is_err() {
+            return Err(NotEnabled::Memory);
+        }
+        Ok(take_at(
+            &mut self.seats[at],
+            &mut self.messages,
+            image,
+            &self.layout,
+            self.frames,
+            &message,
+        ))
+    }
+
+    /// Makes one event. After a refusal nothing has changed; want of memory is the one refusal of a choice that is enabled.
+    pub fn step(&mut self, image: &Image, choice: Choice) -> Result<Event, NotEnabled>
+        requires made { IsMade image.now self.old }
+        requires young { IsYoungWorld self.old.world }
+        ensures made { IfOk result (λ event. world_step (rules (setup_in image.now self.old)) self.old.world choice ≡ Some (self.new.world, event)) }
+        ensures kept { OnOk result (self.new ≡ record self.old { world = self.new.world }) }
+        ensures enabled { OnOk result (refusal_of self.old.world choice ≡ None) }
+        ensures refused { IfErr result (λ why. (why ≡ NotEnabled.Memory) ⊎ (refusal_of self.old.world choice ≡ Some why)) }
+        ensures unchanged { OnErr result (self.new ≡ self.old) }
+    {
+        match choice {
+            Choice::Act(actor) => self.act(image, actor),
+            Choice::Take(actor, id) => self.take(image, actor, id),
+        }
+    }
+}
