@@ -1,4 +1,6 @@
-pub mod Outside
+pub mod Exit
 pub mod Memory
-pub mod Text
+pub mod Outside
 pub mod Simulate
+pub mod Text
+pub mod Words

@@ -5,6 +5,9 @@
 //! `text` has the text of a run.
 #![tactic(auto)]
 
+pub mod exit;
 pub mod outside;
 pub mod simulate;
 pub mod text;
+pub mod top;
+pub mod words;

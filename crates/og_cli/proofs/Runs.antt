@@ -1,0 +1,55 @@
+-- How a run from the bytes of a file ends.
+use Rattle.std.proofs.Common.{◌≡◌, ℕ, ◌+◌, ◌*◌, ◌<◌, ◌≤◌, Bool, true, false, cond, nat_lt, List, length, Option, Some, None, ◌⊎◌, inl, inr, arith, refl, subst, sym, ap}
+use Rattle.std.proofs.lemmas.Bool.Decides.{nat_tests}
+use Rattle.og_runs.specs.declared.Event.{Event}
+use Rattle.rv_hart.specs.declared.image.Elf.{Elf}
+use Rattle.rv_hart.specs.Image.{ImageState}
+use Rattle.rv_hart.specs.Layout.{pages_of}
+use Rattle.rv_hart.specs.Raw.{is_out, raw_elf}
+use Rattle.og_core.specs.declared.msg.Note.{Note}
+use Rattle.og_core.specs.Machine.{MachineState, start_of}
+use Rattle.og_cli.specs.declared.exit.Exit.{Exit}
+use Rattle.og_cli.specs.declared.exit.Exit.TheVariants as exit
+use Rattle.og_cli.specs.declared.exit.ImageFault.{ImageFault}
+use Rattle.og_cli.specs.Text.{text_of}
+use Rattle.og_cli.specs.Simulate.{IsSimulated}
+use Rattle.og_cli.specs.declared.words.WordsFault.{WordsFault}
+use Rattle.og_cli.specs.declared.words.WordsFault.TheVariants as words
+use Rattle.og_cli.specs.Words.{JobState}
+use Rattle.og_cli.specs.Exit.{ShelfChange, CommandEnds, refused_of, RunSettings, SinkChange, RunEnds, IsRunText, PrintEnds, image_of, image_fault, frames_fault}
+
+-- an image with few bytes, that is a raw program, and for which there are frames has no fault
+pub no_fault : (bytes : List ℕ) (nodes frames : ℕ) → length bytes ≤ 67108864 → is_out bytes ≡ false → length (pages_of (image_of bytes nodes)) ≤ nodes * frames → image_fault bytes nodes frames ≡ None
+no_fault bytes nodes frames short sound room =
+    let a : nat_lt 67108864 (length bytes) ≡ false = grind (arith, nat_tests) in
+    let b : nat_lt (nodes * frames) (length (pages_of (image_of bytes nodes))) ≡ false = grind (arith, nat_tests) in
+    rw (a, sound, b) refl
+
+module _ (bytes : List ℕ) (s : RunSettings) (es : List (Event Note)) (old new : SinkChange)
+    (fine : image_fault bytes s.nodes s.frames ≡ None) where
+  text_is : (q : Bool) → IsSimulated (image_of bytes s.nodes) (start_of (image_of bytes s.nodes) s.frames s.instructions) s.events es q → IsRunText bytes s (text_of es q) q
+  text_is q run = record { accepted = fine; events = es; run = run; text_is = refl }
+
+  -- what was simulated, printed
+  pub run_ends : (q : Bool) (x : Exit) → IsSimulated (image_of bytes s.nodes) (start_of (image_of bytes s.nodes) s.frames s.instructions) s.events es q → PrintEnds es q old new x → RunEnds bytes s old new x
+  run_ends true exit.Quiet run p = (text_of es true, text_is true run, p.1)
+  run_ends false exit.Quiet run p = let e : exit.Quiet ≡ exit.Limit = p.0 in absurd (cc)
+  run_ends true exit.Limit run p = let e : exit.Limit ≡ exit.Quiet = p.0 in absurd (cc)
+  run_ends false exit.Limit run p = (text_of es false, text_is false run, p.1)
+  run_ends q exit.SinkFault run p = ((text_of es q, q, text_is q run, p.0), p.1)
+  run_ends q exit.Memory run (inl same) = inl same
+  run_ends q exit.Memory run (inr cut) = inr ((text_of es q, q, text_is q run, cut.0), cut.1)
+  run_ends true exit.Words run p = let e : exit.Words ≡ exit.Quiet = p.0 in absurd (cc)
+  run_ends false exit.Words run p = let e : exit.Words ≡ exit.Limit = p.0 in absurd (cc)
+  run_ends true exit.NotBuilt run p = let e : exit.NotBuilt ≡ exit.Quiet = p.0 in absurd (cc)
+  run_ends false exit.NotBuilt run p = let e : exit.NotBuilt ≡ exit.Limit = p.0 in absurd (cc)
+  run_ends true exit.ShelfFault run p = let e : exit.ShelfFault ≡ exit.Quiet = p.0 in absurd (cc)
+  run_ends false exit.ShelfFault run p = let e : exit.ShelfFault ≡ exit.Limit = p.0 in absurd (cc)
+  run_ends true (exit.Image f) run p = let e : exit.Image f ≡ exit.Quiet = p.0 in absurd (cc)
+  run_ends false (exit.Image f) run p = let e : exit.Image f ≡ exit.Limit = p.0 in absurd (cc)
+
+-- words that aren't read leave all as it was
+pub refused_ends : (job : Option JobState) (fault : WordsFault) (shelf : ShelfChange) (old : SinkChange) → (fault ≡ words.Words → job ≡ None) → CommandEnds job shelf shelf old old (refused_of fault)
+refused_ends job words.Words shelf old only = rw (only refl) (refl, refl, refl)
+refused_ends None words.Memory shelf old only = (refl, refl)
+refused_ends (Some job) words.Memory shelf old only = inl refl

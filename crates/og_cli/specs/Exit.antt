@@ -1,0 +1,165 @@
+-- How the command ends, and what is told of it.
+use Rattle.std.specs.Prelude.{◌≡◌, ℕ, ◌+◌, ◌*◌, ◌<◌, ◌≤◌, ◌⊎◌, Bool, true, false, nat_lt, nat_eq, ◌&&◌, List, [], ◌∷◌, ◌++◌, length, cond, codes, decimal, Option, None, Some}
+use Rattle.og_runs.specs.declared.Event.{Event}
+use Rattle.rv_hart.specs.Image.{ImageState}
+use Rattle.rv_hart.specs.Layout.{pages_of}
+use Rattle.rv_hart.specs.Raw.{is_out, raw_elf}
+use Rattle.og_core.specs.declared.msg.Note.{Note}
+use Rattle.og_core.specs.Machine.{start_of}
+use Rattle.og_cli.specs.declared.exit.Exit.{Exit}
+use Rattle.og_cli.specs.declared.exit.Exit.TheVariants as exit
+use Rattle.og_cli.specs.declared.exit.ImageFault.{ImageFault}
+use Rattle.og_cli.specs.declared.exit.ImageFault.TheVariants as fault
+use Rattle.og_cli.specs.Outside.{Files, HasFile, HasLongFile, AddsName, AddsAtMost, appended, AppendsPrefix, Rises}
+use Rattle.og_cli.specs.Text.{text_of}
+use Rattle.og_cli.specs.Simulate.{IsSimulated}
+use Rattle.og_cli.specs.declared.words.WordsFault.{WordsFault}
+use Rattle.og_cli.specs.declared.words.WordsFault.TheVariants as words
+use Rattle.og_cli.specs.Words.{JobState}
+
+-- the status of the process
+abbrev pub status_of : Exit → ℕ
+status_of exit.Words = 2
+status_of exit.NotBuilt = 9
+status_of exit.ShelfFault = 1
+status_of (exit.Image f) = 4
+status_of exit.Memory = 5
+status_of exit.SinkFault = 14
+status_of exit.Limit = 3
+status_of exit.Quiet = 0
+
+abbrev pub fault_text : ImageFault → List ℕ
+fault_text fault.Raw = codes "origin: image RawOut" ++ 10 ∷ []
+fault_text (fault.NoFrames need have) = codes "origin: image NoFrames need " ++ (decimal need ++ (codes " have " ++ (decimal have ++ 10 ∷ [])))
+fault_text fault.TooLong = codes "origin: image TooLong" ++ 10 ∷ []
+
+-- the one line on the standard error, nothing where a run was printed; the name is that of the file
+abbrev pub told_of : List ℕ → Exit → List ℕ
+told_of name exit.Words = codes "origin: words" ++ 10 ∷ []
+told_of name exit.NotBuilt = codes "origin: not built" ++ 10 ∷ []
+told_of name exit.ShelfFault = codes "origin: cannot read " ++ (name ++ 10 ∷ [])
+told_of name (exit.Image f) = fault_text f
+told_of name exit.Memory = codes "origin: memory" ++ 10 ∷ []
+told_of name exit.SinkFault = codes "origin: cannot write" ++ 10 ∷ []
+told_of name exit.Limit = []
+told_of name exit.Quiet = []
+
+-- ------------------------------------------------------------ the image
+
+-- the program of a raw file, for so many nodes
+abbrev pub image_of : List ℕ → ℕ → ImageState
+image_of bytes nodes = record { entry = (raw_elf bytes).entry; nodes = nodes; segments = (raw_elf bytes).segments }
+
+abbrev pub frames_fault : ℕ → ℕ → Option ImageFault
+frames_fault need have = cond (nat_lt have need) (Some (fault.NoFrames need have)) None
+
+-- why an image isn't run: the first in order, none where it is
+abbrev pub image_fault : List ℕ → ℕ → ℕ → Option ImageFault
+image_fault bytes nodes frames =
+    cond (nat_lt 67108864 (length bytes)) (Some fault.TooLong) (cond (is_out bytes) (Some fault.Raw) (frames_fault (length (pages_of (image_of bytes nodes))) (nodes * frames)))
+
+-- ------------------------------------------------------------ a run from the bytes of a file
+
+-- the settings that a run depends on today
+pub record RunSettings : Type 0 where
+  pub nodes : ℕ
+  pub frames : ℕ
+  pub instructions : ℕ
+  pub events : ℕ
+
+-- the text is that of a simulation from the image of these bytes, which is accepted
+pub record IsRunText (bytes : List ℕ) (s : RunSettings) (text : List ℕ) (quiet : Bool) : Type 0 where
+  pub accepted : image_fault bytes s.nodes s.frames ≡ None
+  pub events : List (Event Note)
+  pub run : IsSimulated (image_of bytes s.nodes) (start_of (image_of bytes s.nodes) s.frames s.instructions) s.events events quiet
+  pub text_is : text ≡ text_of events quiet
+
+-- what a sink's counts and bytes are before and after
+pub record SinkChange : Type 0 where
+  pub held : Option (List ℕ)
+  pub faults : ℕ
+  pub wants : ℕ
+
+-- the whole text was appended
+abbrev pub Printed : List ℕ → RunSettings → SinkChange → SinkChange → Bool → Type 0
+Printed bytes s old new quiet = (text : List ℕ) × IsRunText bytes s text quiet × (new.held ≡ appended old.held text)
+
+-- a prefix of the text was appended
+abbrev pub Cut : List ℕ → RunSettings → SinkChange → SinkChange → Type 0
+Cut bytes s old new = (text : List ℕ) × (quiet : Bool) × IsRunText bytes s text quiet × AppendsPrefix text old.held new.held
+
+-- how a run from these bytes ends: quiet or at its limit, with the whole text; with a fault of the sink, whose count
+-- rose; with a fault of the image, and nothing written; for want of memory, with nothing written unless the sink's
+-- count of wants rose
+abbrev pub RunEnds : List ℕ → RunSettings → SinkChange → SinkChange → Exit → Type 0
+RunEnds bytes s old new exit.Quiet = Printed bytes s old new true
+RunEnds bytes s old new exit.Limit = Printed bytes s old new false
+RunEnds bytes s old new exit.SinkFault = Cut bytes s old new × Rises old.faults new.faults
+RunEnds bytes s old new (exit.Image f) = (image_fault bytes s.nodes s.frames ≡ Some f) × (new.held ≡ old.held)
+RunEnds bytes s old new exit.Memory = (new.held ≡ old.held) ⊎ (Cut bytes s old new × Rises old.wants new.wants)
+RunEnds bytes s old new other = ⊥
+
+-- ------------------------------------------------------------ printing
+
+-- the answer of a run that was printed
+abbrev pub ended_of : Bool → Exit
+ended_of true = exit.Quiet
+ended_of false = exit.Limit
+
+-- how the printing of these events ends
+abbrev pub PrintEnds : List (Event Note) → Bool → SinkChange → SinkChange → Exit → Type 0
+PrintEnds es quiet old new exit.SinkFault = AppendsPrefix (text_of es quiet) old.held new.held × Rises old.faults new.faults
+PrintEnds es quiet old new exit.Memory = (new.held ≡ old.held) ⊎ (AppendsPrefix (text_of es quiet) old.held new.held × Rises old.wants new.wants)
+PrintEnds es quiet old new other = (other ≡ ended_of quiet) × (new.held ≡ appended old.held (text_of es quiet))
+
+-- ------------------------------------------------------------ the command
+
+-- what a shelf's files and failed names are before and after
+pub record ShelfChange : Type 0 where
+  pub files : Option Files
+  pub failed : List (List ℕ)
+
+-- a job that is built: a raw image and one node
+abbrev pub is_built : JobState → Bool
+is_built job = job.raw && nat_eq job.nodes 1
+
+-- the frames of a node, which no word changes yet
+abbrev pub default_frames : ℕ
+default_frames = 64
+
+abbrev pub settings_of : JobState → RunSettings
+settings_of job = record { nodes = job.nodes; frames = default_frames; instructions = job.instructions; events = job.events }
+
+-- the file was read, and its run ended so
+abbrev pub ReadAndRun : JobState → ShelfChange → SinkChange → SinkChange → Exit → Type 0
+ReadAndRun job shelf old new exit = (bytes : List ℕ) × HasFile shelf.files job.name bytes × RunEnds bytes (settings_of job) old new exit
+
+-- how a job ends, with what becomes of the shelf and of the sink: what isn't built isn't begun; a fault of the shelf
+-- added the file's name to the failed ones; a file that is too long has more bytes than the limit; else the file was read
+abbrev pub JobEnds : JobState → ShelfChange → ShelfChange → SinkChange → SinkChange → Exit → Type 0
+JobEnds job shelf after old new exit.NotBuilt = (is_built job ≡ false) × (new ≡ old) × (after ≡ shelf)
+JobEnds job shelf after old new exit.ShelfFault = (is_built job ≡ true) × AddsName job.name shelf.failed after.failed × (new ≡ old)
+JobEnds job shelf after old new (exit.Image fault.TooLong) = (is_built job ≡ true) × HasLongFile shelf.files job.name 67108864 × (new ≡ old)
+JobEnds job shelf after old new exit.Memory = (new ≡ old) ⊎ ((is_built job ≡ true) × ReadAndRun job shelf old new exit.Memory)
+JobEnds job shelf after old new other = (is_built job ≡ true) × ReadAndRun job shelf old new other
+
+-- how the command ends: the words are understood exactly where there is a job
+-- Where the words are understood, memory for them may still be wanted: then nothing is read
+abbrev pub CommandEnds : Option JobState → ShelfChange → ShelfChange → SinkChange → SinkChange → Exit → Type 0
+CommandEnds None shelf after old new exit.Memory = (new ≡ old) × (after ≡ shelf)
+CommandEnds None shelf after old new other = (other ≡ exit.Words) × (new ≡ old) × (after ≡ shelf)
+CommandEnds (Some job) shelf after old new other = JobEnds job shelf after old new other
+
+-- what the answer's line names: the file of the words
+abbrev pub name_of : Option JobState → List ℕ
+name_of None = []
+name_of (Some job) = job.name
+
+-- the answer's line was written to the standard error, or a prefix of it where a count of the sink rose
+abbrev pub IsTold : List ℕ → SinkChange → SinkChange → Type 0
+IsTold text old new = (new.held ≡ appended old.held text) ⊎ (AppendsPrefix text old.held new.held × (Rises old.faults new.faults ⊎ Rises old.wants new.wants))
+
+-- the answer to words that aren't understood, or for want of memory
+abbrev pub refused_of : WordsFault → Exit
+refused_of words.Words = exit.Words
+refused_of words.Memory = exit.Memory

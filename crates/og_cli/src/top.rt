@@ -1,0 +1,206 @@
+//! The command from its words to its answer.
+
+ghost use Rattle.std.specs.Prelude.{◌≡◌, ◌≤◌, ℕ, [], ◌+◌, ◌*◌, ◌^◌, ◌⊎◌, length, IfOk, IfErr, OnOk, OnErr, true, false, string_bytes};
+ghost use Rattle.rv_hart.specs.Layout.{pages_of};
+ghost use Rattle.og_core.specs.Machine.{start_of};
+ghost use Rattle.og_cli.specs.Outside.{appended, AppendsPrefix, Rises, parts_text, texts};
+ghost use Rattle.og_cli.specs.Simulate.{IsSimulated};
+ghost use Rattle.og_cli.specs.Text.{text_of};
+ghost use Rattle.og_cli.specs.Exit.{fault_text, refused_of, default_frames, ShelfChange, is_built, JobEnds, CommandEnds, IsTold, name_of, PrintEnds, ended_of, RunSettings, SinkChange, RunEnds, IsRunText, image_of, image_fault, told_of};
+ghost use Rattle.og_cli.specs.Words.{job_seen, job_of};
+
+use crate::exit::{Exit, ImageFault};
+use crate::outside::{Shelf, ShelfFault, Sink, SinkFault, write_all, write_parts};
+use crate::simulate::{Simulated, simulate};
+use crate::text::write_text;
+use crate::words::{Job, WordsFault, read_words};
+use itoa::Buffer;
+use og_base::Settings;
+use og_core::machine::Machine;
+use rv_hart::image::Image;
+use rv_hart::layout::LayoutFault;
+use rv_hart::raw::{RawFault, read_raw};
+use std::alloc::Global;
+
+/// The most bytes of an image file.
+const MOST_IMAGE: u64 = 67_108_864;
+
+/// Writes the text of a simulation.
+fn print<K: Sink>(alloc: Global, simulated: &Simulated, out: &mut K) -> Exit
+    ensures { PrintEnds simulated.now.events.items simulated.now.quiet (record { held = K.held out.old; faults = K.faults out.old; wants = K.wants out.old }) (record { held = K.held out.new; faults = K.faults out.new; wants = K.wants out.new }) result }
+{
+    let text = match write_text(alloc, &simulated.events, simulated.quiet) {
+        Ok(text) => text,
+        Err(_) => return Exit::Memory,
+    };
+    match write_all(out, &text) {
+        Ok(()) => ended(simulated.quiet),
+        Err(SinkFault::Failed) => Exit::SinkFault,
+        Err(SinkFault::Memory) => Exit::Memory,
+    }
+}
+
+/// The answer of a run that was printed.
+fn ended(quiet: bool) -> Exit
+    ensures { result ≡ ended_of quiet }
+{
+    if quiet { Exit::Quiet } else { Exit::Limit }
+}
+
+/// Runs the program of a raw file.
+fn run_bytes<K: Sink>(
+    alloc: Global,
+    bytes: &[u8],
+    settings: &Settings,
+    events: u32,
+    out: &mut K,
+) -> Exit
+    requires one { settings.now.nodes ≡ 1 }
+    requires within { length bytes.now ≤ 67108864 }
+    ensures { RunEnds bytes.now (record { nodes = settings.now.nodes; frames = settings.now.frames; instructions = settings.now.instructions; events = events }) (record { held = K.held out.old; faults = K.faults out.old; wants = K.wants out.old }) (record { held = K.held out.new; faults = K.faults out.new; wants = K.wants out.new }) result }
+{
+    let elf = match read_raw(alloc, bytes) {
+        Ok(elf) => elf,
+        Err(RawFault::RawOut) => return Exit::Image(ImageFault::Raw),
+        Err(RawFault::Memory) => return Exit::Memory,
+    };
+    let image = match Image::make(alloc, elf, settings.nodes) {
+        Ok(image) => image,
+        Err(_) => return Exit::Memory,
+    };
+    let mut machine = match Machine::start(alloc, &image, settings) {
+        Ok(machine) => machine,
+        Err(LayoutFault::NoFrames { need, have }) => {
+            return Exit::Image(ImageFault::NoFrames { need, have });
+        }
+        Err(LayoutFault::Memory) => return Exit::Memory,
+    };
+    match simulate(alloc, &image, &mut machine, events) {
+        Ok(simulated) => print(alloc, &simulated, out),
+        Err(_) => Exit::Memory,
+    }
+}
+
+/// Does what the words ask for.
+fn perform<F: Shelf, K: Sink>(alloc: Global, job: &Job, shelf: &mut F, out: &mut K) -> Exit
+    requires nodes { (1 ≤ job.now.nodes) × (job.now.nodes ≤ 16) }
+    requires instructions { job.now.instructions ≤ 1000000 }
+    ensures { JobEnds (job_seen job.now) (record { files = F.files shelf.old; failed = F.failed shelf.old }) (record { files = F.files shelf.new; failed = F.failed shelf.new }) (record { held = K.held out.old; faults = K.faults out.old; wants = K.wants out.old }) (record { held = K.held out.new; faults = K.faults out.new; wants = K.wants out.new }) result }
+{
+    if !job.raw || job.nodes != 1 {
+        return Exit::NotBuilt;
+    }
+    let settings = settings(job.nodes, job.instructions);
+    match shelf.fetch(alloc, job.name.as_str(), MOST_IMAGE) {
+        Ok(bytes) => run_bytes(alloc, &bytes, &settings, job.events, out),
+        Err(ShelfFault::Failed) => Exit::ShelfFault,
+        Err(ShelfFault::TooLong) => Exit::Image(ImageFault::TooLong),
+        Err(ShelfFault::Memory) => Exit::Memory,
+    }
+}
+
+/// The settings of a run: those that no word changes yet have their defaults.
+fn settings(nodes: u8, instructions: u32) -> Settings
+    requires nodes { (1 ≤ nodes) × (nodes ≤ 16) }
+    requires instructions { instructions ≤ 1000000 }
+    ensures nodes { result.nodes ≡ nodes }
+    ensures frames { result.frames ≡ default_frames }
+    ensures instructions { result.instructions ≡ instructions }
+{
+    Settings {
+        nodes,
+        frames: 64,
+        sets: 64,
+        ways: 2,
+        tlb: 8,
+        instructions,
+        trigger: 64,
+        sharing: 32,
+        moves: 4,
+        reset: 1024,
+    }
+}
+
+/// Writes a line in parts; a failure changes nothing else.
+fn tell_parts<E: Sink>(parts: &[&[u8]], err: &mut E)
+    ensures { IsTold (parts_text parts.now) (record { held = E.held err.old; faults = E.faults err.old; wants = E.wants err.old }) (record { held = E.held err.new; faults = E.faults err.new; wants = E.wants err.new }) }
+{
+    let _told = write_parts(err, parts);
+}
+
+/// Writes why an image is refused.
+fn tell_fault<E: Sink>(fault: ImageFault, err: &mut E)
+    ensures { IsTold (fault_text fault) (record { held = E.held err.old; faults = E.faults err.old; wants = E.wants err.old }) (record { held = E.held err.new; faults = E.faults err.new; wants = E.wants err.new }) }
+{
+    match fault {
+        ImageFault::Raw => tell_parts(&[b"origin: image RawOut", b"\n"], err),
+        ImageFault::TooLong => tell_parts(&[b"origin: image TooLong", b"\n"], err),
+        ImageFault::NoFrames { need, have } => {
+            let mut first = Buffer::new();
+            let mut second = Buffer::new();
+            let need = first.format(need).as_bytes();
+            let have = second.format(have).as_bytes();
+            tell_parts(
+                &[
+                    b"origin: image NoFrames need ",
+                    need,
+                    b" have ",
+                    have,
+                    b"\n",
+                ],
+                err,
+            );
+        }
+    }
+}
+
+/// Writes the one line that tells the answer.
+fn tell<E: Sink>(exit: &Exit, name: &str, err: &mut E)
+    ensures { IsTold (told_of name.now exit.now) (record { held = E.held err.old; faults = E.faults err.old; wants = E.wants err.old }) (record { held = E.held err.new; faults = E.faults err.new; wants = E.wants err.new }) }
+{
+    match *exit {
+        Exit::Words => tell_parts(&[b"origin: words", b"\n"], err),
+        Exit::NotBuilt => tell_parts(&[b"origin: not built", b"\n"], err),
+        Exit::ShelfFault => {
+            tell_parts(&[b"origin: cannot read ", name.as_bytes(), b"\n"], err);
+        }
+        Exit::Image(fault) => tell_fault(fault, err),
+        Exit::Memory => tell_parts(&[b"origin: memory", b"\n"], err),
+        Exit::SinkFault => tell_parts(&[b"origin: cannot write", b"\n"], err),
+        Exit::Limit | Exit::Quiet => {}
+    }
+}
+
+/// Does what the words ask for, and answers how it ended. It waits for nobody. What is printed is on
+/// `out`, the one line of an answer on `err`.
+pub fn origin_alone<F: Shelf, K: Sink, E: Sink>(
+    alloc: Global,
+    words: &[String],
+    shelf: &mut F,
+    out: &mut K,
+    err: &mut E,
+) -> Exit
+    ensures ends { CommandEnds (job_of (texts words.now)) (record { files = F.files shelf.old; failed = F.failed shelf.old }) (record { files = F.files shelf.new; failed = F.failed shelf.new }) (record { held = K.held out.old; faults = K.faults out.old; wants = K.wants out.old }) (record { held = K.held out.new; faults = K.faults out.new; wants = K.wants out.new }) result }
+    ensures told { IsTold (told_of (name_of (job_of (texts words.now))) result) (record { held = E.held err.old; faults = E.faults err.old; wants = E.wants err.old }) (record { held = E.held err.new; faults = E.faults err.new; wants = E.wants err.new }) }
+{
+    let job = match read_words(alloc, words) {
+        Ok(job) => job,
+        Err(fault) => return refuse(fault, err),
+    };
+    let exit = perform(alloc, &job, shelf, out);
+    tell(&exit, job.name.as_str(), err);
+    exit
+}
+
+/// The answer to words that aren't understood, or for want of memory.
+fn refuse<E: Sink>(fault: WordsFault, err: &mut E) -> Exit
+    ensures answer { result ≡ refused_of fault }
+    ensures told { IsTold (told_of [] result) (record { held = E.held err.old; faults = E.faults err.old; wants = E.wants err.old }) (record { held = E.held err.new; faults = E.faults err.new; wants = E.wants err.new }) }
+{
+    let exit = match fault {
+        WordsFault::Words => Exit::Words,
+        WordsFault::Memory => Exit::Memory,
+    };
+    tell(&exit, "", err);
+    exit
+}
