@@ -8,3 +8,4 @@ pub mod Starts
 pub mod Flats
 pub mod Reached
 pub mod Machines
+pub mod Choices

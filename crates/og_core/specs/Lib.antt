@@ -3,3 +3,4 @@ pub mod Start
 pub mod Machine
 pub mod FlatRun
 pub mod HartRuns
+pub mod Simulation

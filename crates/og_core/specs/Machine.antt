@@ -47,6 +47,15 @@ new_seat setup instructions node = record { local = start_node setup node instru
 abbrev pub start_world : Setup → ℕ → World NodeState Kind
 start_world setup instructions = record { seats = map (new_seat setup instructions) (below setup.layout.nodes); flight = [] }
 
+-- the machine of a program at its start
+abbrev pub start_of : ImageState → ℕ → ℕ → MachineState
+start_of image frames instructions = record {
+  layout = layout_of image;
+  frames = frames;
+  instructions = instructions;
+  world = start_world (setup_of image (layout_of image) frames) instructions;
+}
+
 -- a machine for this image, which has one node and enough frames
 pub record IsFor (image : ImageState) (m : MachineState) : Type 0 where
   pub loads : IsLoadable image.entry image.segments

@@ -6,7 +6,11 @@ ghost use Rattle.og_runs.specs.World.{world_step};
 ghost use Rattle.og_runs.specs.declared.Choice.TheVariants.{Act, Take};
 ghost use Rattle.rv_hart.specs.Layout.{layout_of, pages_of};
 ghost use Rattle.og_core.specs.Node.{letters_of, setup_of, rules, act_of, take_of, IsYoung, IsLow};
-ghost use Rattle.og_core.specs.Machine.{MachineState, Moves, setup_in, start_world, IsFor, IsMade, IsYoungWorld, refusal_of, is_stopped, is_quiet};
+ghost use Rattle.og_core.specs.Machine.{MachineState, Moves, setup_in, start_world, IsFor, IsMade, IsYoungWorld, refusal_of, is_stopped, is_quiet, start_of, new_seat};
+ghost use Rattle.og_core.specs.Simulation.{acts_in, enabled_of, drain_of};
+ghost use Rattle.std.specs.Prelude.{◌↔◌, true};
+ghost use Rattle.rv_hart.specs.Layout.{below};
+ghost use Rattle.std.specs.Prelude.{map};
 
 use crate::msg::{Event, Msg};
 use crate::node::{Done, Node};
@@ -187,4 +191,118 @@ impl Machine {
             Choice::Take(actor, id) => self.take(image, actor, id),
         }
     }
+}
+
+impl Machine {
+    /// The machine of a program at its start, for one node: `NoFrames` where its data and stack pages
+    /// are more than the frames.
+    pub fn start(alloc: Global, image: &Image, settings: &Settings) -> Result<Machine, LayoutFault>
+        requires nodes { settings.now.nodes ≡ image.now.nodes }
+        ensures made { IfOk result (λ machine. machine ≡ start_of image.now settings.now.frames settings.now.instructions) }
+        ensures room { OnOk result (length (pages_of image.now) ≤ settings.now.nodes * settings.now.frames) }
+        ensures no_frames { (need have : ℕ) → result ≡ Err (LayoutFault.NoFrames need have) →
+            (need ≡ length (pages_of image.now)) × (have ≡ settings.now.nodes * settings.now.frames) × (have < need) }
+    {
+        let layout = Layout::make(alloc, image, settings)?;
+        match start_seats(alloc, image, &layout, settings) {
+            Ok(seats) => Ok(Machine {
+                layout,
+                frames: settings.frames,
+                instructions: settings.instructions,
+                seats,
+                messages: Vec::new(alloc),
+            }),
+            Err(_) => Err(LayoutFault::Memory),
+        }
+    }
+
+    /// Whether each hart has stopped.
+    pub fn stopped(&self) -> bool
+        ensures { result ≡ is_stopped self.now.world }
+    {
+        self.seats.iter().all(|seat| seat.local.stopped().is_some())
+    }
+
+    /// Whether each hart has stopped and no message is in flight.
+    pub fn quiet(&self) -> bool
+        ensures { result ≡ is_quiet self.now.world }
+    {
+        self.stopped() && self.messages.is_empty()
+    }
+
+    /// How many messages are in flight.
+    pub fn in_flight(&self) -> u32
+        requires { length self.now.world.flight < 2 ^ 31 }
+        ensures { result ≡ length self.now.world.flight }
+    {
+        self.messages.len() as u32
+    }
+}
+
+impl Machine {
+    /// How many acts are enabled.
+    fn acts(&self) -> u32
+        ensures { result ≡ acts_in self.now.world.seats }
+    {
+        match self.seats.first() {
+            Some(seat) if seat.local.can_act().is_ok() => 1,
+            _ => 0,
+        }
+    }
+
+    /// How many choices are enabled: at most one, since there is one node.
+    pub fn enabled_count(&self, image: &Image) -> u32
+        requires made { IsMade image.now self.now }
+        ensures count { result ≡ length (enabled_of self.now.world) }
+        ensures few { result ≤ 1 }
+    {
+        self.acts() + self.messages.len() as u32
+    }
+
+    /// The enabled choice with this number in their order: for each actor its act, then its takes.
+    pub fn enabled(&self, image: &Image, at: u32) -> Choice
+        requires made { IsMade image.now self.now }
+        requires inside { at < length (enabled_of self.now.world) }
+        ensures { slice_get (enabled_of self.now.world) at ≡ Some result }
+    {
+        let acts = self.acts();
+        if at < acts {
+            Choice::Act(0)
+        } else {
+            Choice::Take(0, self.messages[(at - acts) as usize].id)
+        }
+    }
+
+    /// When all harts have stopped: the take of the message that was sent first. None where the
+    /// machine is quiet.
+    pub fn drain_next(&self, image: &Image) -> Option<Choice>
+        requires made { IsMade image.now self.now }
+        requires stopped { is_stopped self.now.world ≡ true }
+        ensures next { result ≡ drain_of self.now.world }
+        ensures none { result ≡ None ↔ (is_quiet self.now.world ≡ true) }
+    {
+        let message = self.messages.first()?;
+        Some(Choice::Take(message.to, message.id))
+    }
+}
+
+/// The seats of all actors at the start.
+fn start_seats(
+    alloc: Global,
+    image: &Image,
+    layout: &Layout,
+    settings: &Settings,
+) -> Result<Vec<Seat<Node>>, NoMemory>
+    requires { layout.now.nodes ≡ settings.now.nodes }
+    ensures { IfOk result (λ seats. seats.items ≡ map (new_seat (setup_of image.now layout.now settings.now.frames) settings.now.instructions) (below layout.now.nodes)) }
+{
+    let mut seats = Vec::new(alloc);
+    for node in 0..settings.nodes {
+        seats.push(Seat {
+            local: Node::make(alloc, node, image, layout, settings)?,
+            clock: 0,
+            next: 0,
+        })?;
+    }
+    Ok(seats)
 }

@@ -1,0 +1,14 @@
+use Rattle.std.proofs.Common.{◌≡◌, ℕ, map, arith}
+use Rattle.std.proofs.lemmas.Grind.{common_steps}
+use Rattle.rv_hart.specs.Layout.{below}
+use Rattle.rv_hart.proofs.Pages.{map_below_more}
+use Rattle.og_core.specs.Node.{setup_of}
+use Rattle.og_core.specs.Machine.{new_seat}
+use Rattle.og_core.proofs.machine.start_seats.Goals as goal
+
+pub loop-node-init : goal.loop-node-init
+unfolding below
+loop-node-init c = c.new-seats.ensures.items
+
+pub loop-node-preserved : goal.loop-node-preserved
+loop-node-preserved c = rw (map_below_more (new_seat (setup_of c.args.image.now c.args.layout.now c.args.settings.now.frames) c.args.settings.now.instructions) c.loop-node.node) (grind (arith, common_steps))
