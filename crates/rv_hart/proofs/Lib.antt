@@ -1,4 +1,5 @@
 pub mod Agreement
+pub mod Answers
 pub mod HartFacts
 pub mod Needs
 pub mod Numbers

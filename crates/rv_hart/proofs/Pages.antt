@@ -1,6 +1,5 @@
 -- The list of placed pages rises, and a binary search in it finds the number of a page.
-use Rattle.std.proofs.Common.{◌≡◌, ◌≢◌, ℕ, zero, suc, ◌+◌, ◌-◌, ◌*◌, ◌/◌, ◌<◌, ◌≤◌, length, List, [], ◌∷◌, ◌++◌, map, arith, refl, sym, subst, cond, true, false, Bool, get_or, ◌^◌, Option, Some, None, Result, Ok, Err, nat_eq, nat_cmp, ap, add-one, length-append}
-use Rattle.std.specs.Prelude.{slice_index, MatchResult}
+use Rattle.std.proofs.Common.{◌≡◌, ◌≢◌, ℕ, zero, suc, ◌+◌, ◌-◌, ◌*◌, ◌<◌, ◌≤◌, length, List, [], ◌∷◌, ◌++◌, map, arith, refl, cond, true, false, Bool, get_or, ◌^◌, Option, Some, None, Ok, Err, nat_eq, nat_cmp, ap, add-one, length-append}
 use Rattle.std.specs.List.{filter, position, position_or_len}
 use Rattle.std.specs.List.Sorted.{IsStrictlyIncreasing}
 use Rattle.std.proofs.lemmas.Bool.Decides.{nat_tests}

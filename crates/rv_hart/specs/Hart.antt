@@ -1,5 +1,5 @@
 -- A hart: what its next instruction needs, and what it is after that instruction.
-use Rattle.std.specs.Prelude.{ℕ, ◌-◌, ◌%◌, ◌==◌, List, Option, Some, None, is_some, unwrap_or, option_and_then, slice_index, slice_set, replicate, if◌then◌else◌}
+use Rattle.std.specs.Prelude.{◌≡◌, ℕ, ◌-◌, ◌%◌, ◌==◌, List, Option, Some, None, is_some, unwrap_or, option_and_then, slice_index, slice_set, replicate, if◌then◌else◌}
 use Rattle.std.specs.Int.{w64, cast_unsigned}
 use Rattle.og_base.specs.declared.Cause.{Cause}
 use Rattle.og_base.specs.declared.Cause.TheVariants.{Exit, Illegal, Fetch, Misaligned, Unmapped, Call, Break, Spent}
@@ -40,17 +40,17 @@ with_register regs r value = if r == 0 then regs else slice_set regs r value
 abbrev pub imm_of : Instr → ℕ
 imm_of i = cast_unsigned w64 i.imm
 
-abbrev pub first_of : HartState → Instr → ℕ
-first_of h i = slice_index h.regs i.rs1
+abbrev pub first_source : HartState → Instr → ℕ
+first_source h i = slice_index h.regs i.rs1
 
-abbrev pub second_of : HartState → Instr → ℕ
-second_of h i = slice_index h.regs i.rs2
+abbrev pub second_source : HartState → Instr → ℕ
+second_source h i = slice_index h.regs i.rs2
 
 abbrev pub access_in : HartState → Instr → Option Access
-access_in h i = access_of i.op (imm_of i) (first_of h i) (second_of h i)
+access_in h i = access_of i.op (imm_of i) (first_source h i) (second_source h i)
 
 abbrev pub target_in : HartState → Instr → Option ℕ
-target_in h i = target_of i.op (imm_of i) h.pc (first_of h i) (second_of h i)
+target_in h i = target_of i.op (imm_of i) h.pc (first_source h i) (second_source h i)
 
 -- what a load of read-only bytes answers: only the seven loads have such an answer
 abbrev pub constant_of : ImageState → Access → Option ℕ
@@ -115,7 +115,7 @@ with_result regs r (Some value) = with_register regs r value
 abbrev pub executed : ImageState → HartState → ℕ → Instr → HartState
 executed image h answer i = record {
   regs = with_result h.regs i.rd
-      (value_of i.op (imm_of i) h.pc (first_of h i) (second_of h i) (loaded image (access_in h i) answer));
+      (value_of i.op (imm_of i) h.pc (first_source h i) (second_source h i) (loaded image (access_in h i) answer));
   pc = unwrap_or (target_in h i) (plus h.pc 4);
   left = h.left - 1;
   cause = h.cause;
@@ -145,3 +145,18 @@ halted h _ = h
 -- a trap keeps the instruction's pc
 unfoldable pub halt_of : ImageState → HartState → HartState
 halt_of image h = halted h (need_of image h)
+
+-- ---- a law
+
+-- a need without an access, of a hart that goes on
+abbrev pub NeedsNoMemory : Need → Type 0
+NeedsNoMemory need.Plain = Unit {0}
+NeedsNoMemory (need.Access x) = ⊥
+NeedsNoMemory (need.Emit value) = Unit {0}
+NeedsNoMemory (need.Stop cause) = ⊥
+
+-- where no access is needed, memory's answer isn't looked at
+abbrev pub AnswerIgnored : Type 0
+AnswerIgnored =
+    (image : ImageState) (h : HartState) (one other : ℕ) → NeedsNoMemory (need_of image h)
+    → finish_of image h one ≡ finish_of image h other

@@ -10,7 +10,7 @@ ghost use Rattle.og_line.specs.Access.{HasWidth, IsAligned, addr_of, width_of, o
 ghost use Rattle.rv_decode.specs.Rows.{HasRegisters};
 ghost use Rattle.rv_hart.specs.Work.{is_width_known, work_of};
 ghost use Rattle.rv_hart.specs.Image.{is_data_of};
-ghost use Rattle.rv_hart.specs.Hart.{HartState, IsStop, call_need, constant_of, access_need, data_need, target_need, instr_of, imm_of, first_of, second_of, access_in, target_in, with_result, start_of, need_of, finish_of, halt_of};
+ghost use Rattle.rv_hart.specs.Hart.{AnswerIgnored, HartState, IsStop, call_need, constant_of, access_need, data_need, target_need, instr_of, imm_of, first_source, second_source, access_in, target_in, with_result, start_of, need_of, finish_of, halt_of};
 
 use crate::compute::{jump_target, memory_access, result_value};
 use crate::image::Image;
@@ -103,8 +103,8 @@ impl Hart {
         ensures work { result.work ≡ work_of instr.now.op }
         ensures width { is_width_known result.work ≡ true }
         ensures imm { result.imm ≡ imm_of instr.now }
-        ensures first { result.a ≡ first_of self.now instr.now }
-        ensures second { result.b ≡ second_of self.now instr.now }
+        ensures first { result.a ≡ first_source self.now instr.now }
+        ensures second { result.b ≡ second_source self.now instr.now }
     {
         Operands {
             work: find_work(instr.op),
@@ -273,3 +273,8 @@ fn constant(image: &Image, access: &Access) -> Option<u64>
         _ => None,
     }
 }
+
+/// Where no access is needed, memory's answer isn't looked at.
+pub fn answers_are_ignored()
+    ensures { AnswerIgnored }
+{}

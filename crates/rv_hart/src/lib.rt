@@ -1,8 +1,10 @@
 //! One hart of RV64IA and the program that it runs.
 //!
 //! The modules `image`, `layout` and `raw` keep the table of images: which segments a program has,
-//! what its memory is at the start, and in which frame each page stands. Below stand the names of
-//! the machine and the lines of memory; above stands the machine.
+//! what its memory is at the start, and in which frame each page stands. The module `hart` keeps the
+//! table of needs (`specs/Hart.antt`) and of the operations of RV64IA (`specs/Effect.antt`). Below
+//! stand the names of the machine, the lines of memory and the instruction words; above stands the
+//! machine.
 #![tactic(auto)]
 
 mod compute;

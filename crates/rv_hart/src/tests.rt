@@ -4,10 +4,13 @@ use crate::raw::read_raw;
 use og_base::Cause;
 use og_line::Access;
 use std::alloc::Global;
+use std::process::Abort;
 use std::test::Fail;
 
 // A program of four words, what stops its plain instructions, and the pc then. Hart 3 of 4 runs it.
-static PROGRAMS: [([u32; 4], Need, u64); 20] = [
+type Program = ([u32; 4], Need, u64);
+
+static PROGRAMS: [Program; 20] = [
     // exit with x10, which is the hart's number
     (
         [0x05d00893, 0x00000073, 0x00000000, 0x00000000],
@@ -177,15 +180,19 @@ fn first_need(hart: &mut Hart, image: &Image) -> Need {
     Need::Plain
 }
 
-#[test]
-fn needs(rt: HostRuntime) -> Result<(), Fail> {
-    for (words, wanted, pc) in PROGRAMS {
-        let image = load(rt.alloc(), &words)?;
+fn stop_at_needs(rt: &impl Abort, alloc: Global, table: &[Program]) -> Result<(), Fail> {
+    for &(words, wanted, pc) in table {
+        let image = load(alloc, &words)?;
         let mut hart = Hart::start(image.entry(), 3, 4, 0x7000_7000, 100);
         assert_eq!(rt; first_need(&mut hart, &image), wanted, "{words:?}");
         assert_eq!(rt; hart.pc(), pc, "{words:?}");
     }
     Ok(())
+}
+
+#[test]
+fn needs(rt: HostRuntime) -> Result<(), Fail> {
+    stop_at_needs(&rt, rt.alloc(), &PROGRAMS)
 }
 
 // A hart without instructions, and one that stops with its cause.

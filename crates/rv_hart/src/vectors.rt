@@ -2,6 +2,7 @@ use crate::compute::{jump_target, memory_access, result_value};
 use crate::work::find_work;
 use og_line::{Access, AtomicOp};
 use rv_decode::Op;
+use std::process::Abort;
 
 const PC: u64 = 0x1_0008;
 
@@ -282,9 +283,8 @@ static VALUES: [Value; 263] = [
     (Op::ScD, 0, 0, 0, 0x1, 0x1),
 ];
 
-#[test]
-fn results(rt: HostRuntime) {
-    for (op, imm, a, b, answer, wanted) in VALUES {
+fn give_results(rt: &impl Abort, table: &[Value]) {
+    for &(op, imm, a, b, answer, wanted) in table {
         let value = result_value(find_work(op), imm, PC, a, b, answer);
         assert_eq!(rt;
             value,
@@ -292,6 +292,11 @@ fn results(rt: HostRuntime) {
             "{op:?} {imm:x} {a:x} {b:x} {answer:x}"
         );
     }
+}
+
+#[test]
+fn results(rt: HostRuntime) {
+    give_results(&rt, &VALUES);
 }
 
 // Operations without a result.
@@ -358,17 +363,23 @@ static TARGETS: [Target; 35] = [
     (Op::Bgeu, 0xffffffffffffffd8, GREATEST, LEAST, None),
 ];
 
-#[test]
-fn targets(rt: HostRuntime) {
-    for (op, imm, a, b, wanted) in TARGETS {
+fn go_to_targets(rt: &impl Abort, table: &[Target]) {
+    for &(op, imm, a, b, wanted) in table {
         let target = jump_target(find_work(op), imm, PC, a, b);
         assert_eq!(rt; target, wanted, "{op:?} {a:x} {b:x}");
     }
+}
+
+#[test]
+fn targets(rt: HostRuntime) {
+    go_to_targets(&rt, &TARGETS);
     assert_eq!(rt; jump_target(find_work(Op::Addi), 4, PC, 0, 0), None);
 }
 
 // Operation, immediate, sources, and the access.
-static ACCESSES: [(Op, u64, u64, u64, Access); 33] = [
+type Made = (Op, u64, u64, u64, Access);
+
+static ACCESSES: [Made; 33] = [
     (
         Op::Lb,
         0xfffffffffffffff8,
@@ -722,14 +733,18 @@ static ACCESSES: [(Op, u64, u64, u64, Access); 33] = [
     ),
 ];
 
-#[test]
-fn accesses(rt: HostRuntime) {
-    for (op, imm, a, b, wanted) in ACCESSES {
+fn make_accesses(rt: &impl Abort, table: &[Made]) {
+    for &(op, imm, a, b, wanted) in table {
         assert_eq!(rt;
             memory_access(find_work(op), imm, a, b),
             Some(wanted),
             "{op:?}"
         );
     }
+}
+
+#[test]
+fn accesses(rt: HostRuntime) {
+    make_accesses(&rt, &ACCESSES);
     assert_eq!(rt; memory_access(find_work(Op::Lui), 0, 0, 0), None);
 }
