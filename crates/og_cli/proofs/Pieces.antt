@@ -1,9 +1,9 @@
 -- Texts that are written piece by piece.
-use Rattle.std.proofs.Common.{◌≡◌, ◌≢◌, ℕ, ◌+◌, ◌-◌, ◌≤◌, ◌<◌, min, List, [], ◌∷◌, ◌++◌, length, take, drop, arith, refl, sym, ap, subst, append_assoc, length-append, length-drop, Option, None, Some, Result, Ok, Err, IfOk, OnErr}
+use Rattle.std.proofs.Common.{◌≡◌, ◌≢◌, ℕ, zero, suc, get_or, Bor, ◌+◌, ◌-◌, ◌≤◌, ◌<◌, min, List, [], ◌∷◌, ◌++◌, length, take, drop, arith, refl, sym, ap, subst, append_assoc, length-append, length-drop, Option, None, Some, Result, Ok, Err, IfOk, OnErr}
 use Rattle.std.proofs.Math.Path.{◌∙◌}
 use Rattle.std.proofs.Math.Seq.{take-append_seam}
 use Rattle.std.proofs.lemmas.List.{take-append-drop, take-append-le, take_all, append-nil, length-take}
-use Rattle.og_cli.specs.Outside.{appended, AppendsPrefix}
+use Rattle.og_cli.specs.Outside.{appended, AppendsPrefix, parts_text}
 
 -- within the first k elements, the first n of these are the first n of all
 pub take_within : (n k : ℕ) (xs : List ℕ) → n ≤ length (take k xs) → take n (take k xs) ≡ take n xs
@@ -61,3 +61,35 @@ split_more text written rest n old mid new is held more =
       is ∙ (ap (λ (xs : List ℕ). written ++ xs) (sym (take-append-drop n rest)) ∙ (sym (append_assoc written (take n rest) (drop n rest)) ∙ ap (λ (xs : List ℕ). (written ++ take n rest) ++ xs) (sym all))),
       more ∙ (ap (λ (o : Option (List ℕ)). appended o (take n rest)) held ∙ appended_twice old written (take n rest)),
     )
+
+-- ------------------------------------------------------------------------------ texts in parts
+
+parts_drop : (ps : List (Bor (List ℕ))) (i : ℕ) (d : Bor (List ℕ)) → i < length ps → parts_text (drop i ps) ≡ (get_or ps i d).now ++ parts_text (drop (i + 1) ps)
+parts_drop [] i d lt = absurd (omega arith)
+parts_drop (p ∷ ps) zero d lt = refl
+parts_drop (p ∷ ps) (suc i) d lt =
+    let one : i + 1 ≡ suc i = omega arith in
+    let two : suc (suc i) ≡ suc i + 1 = omega arith in
+    subst (λ (n : ℕ). parts_text (drop i ps) ≡ (get_or ps i d).now ++ parts_text (drop n (p ∷ ps))) two
+    (subst (λ (n : ℕ). parts_text (drop i ps) ≡ (get_or ps i d).now ++ parts_text (drop n ps)) one (parts_drop ps i d (omega arith)))
+
+-- the split after one more part
+pub split_part : (ps : List (Bor (List ℕ))) (i : ℕ) (d : Bor (List ℕ)) (written : List ℕ) (old mid new : Option (List ℕ)) → i < length ps →
+    parts_text ps ≡ written ++ parts_text (drop i ps) → mid ≡ appended old written → new ≡ appended mid (get_or ps i d).now →
+    (x : List ℕ) × (parts_text ps ≡ x ++ parts_text (drop (i + 1) ps)) × (new ≡ appended old x)
+split_part ps i d written old mid new lt is held more = (
+  written ++ (get_or ps i d).now,
+  is ∙ (ap (λ (xs : List ℕ). written ++ xs) (parts_drop ps i d lt) ∙ sym (append_assoc written (get_or ps i d).now (parts_text (drop (i + 1) ps)))),
+  more ∙ (ap (λ (o : Option (List ℕ)). appended o (get_or ps i d).now) held ∙ appended_twice old written (get_or ps i d).now),
+)
+
+-- some first bytes of a part, after the parts before it
+pub prefix_of_part : (ps : List (Bor (List ℕ))) (i : ℕ) (d : Bor (List ℕ)) (written : List ℕ) (old mid new : Option (List ℕ)) → i < length ps →
+    parts_text ps ≡ written ++ parts_text (drop i ps) → mid ≡ appended old written → AppendsPrefix (get_or ps i d).now mid new → AppendsPrefix (parts_text ps) old new
+prefix_of_part ps i d written old mid new lt is held h =
+    let part : List ℕ = (get_or ps i d).now in
+    let all : parts_text ps ≡ (written ++ take h.0 part) ++ (drop h.0 part ++ parts_text (drop (i + 1) ps)) =
+    is ∙ (ap (λ (xs : List ℕ). written ++ xs) (parts_drop ps i d lt ∙ (ap (λ (xs : List ℕ). xs ++ parts_text (drop (i + 1) ps)) (sym (take-append-drop h.0 part)) ∙ append_assoc (take h.0 part) (drop h.0 part) (parts_text (drop (i + 1) ps)))) ∙
+    sym (append_assoc written (take h.0 part) (drop h.0 part ++ parts_text (drop (i + 1) ps)))) in
+    let now : new ≡ appended old (written ++ take h.0 part) = h.2 ∙ (ap (λ (o : Option (List ℕ)). appended o (take h.0 part)) held ∙ appended_twice old written (take h.0 part)) in
+    prefix_of_split (parts_text ps) (written ++ take h.0 part) (drop h.0 part ++ parts_text (drop (i + 1) ps)) old new all now

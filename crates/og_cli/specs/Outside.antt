@@ -1,6 +1,7 @@
 -- The outside: files with names, and a sink that holds what was written.
-use Rattle.std.specs.Prelude.{◌≡◌, ℕ, ◌+◌, ◌-◌, ◌^◌, ◌<◌, ◌≤◌, min, List, [], ◌∷◌, ◌++◌, length, take, Option, None, Some, IfSome, IsSomeAnd, ◌⊎◌, cond}
+use Rattle.std.specs.Prelude.{◌≡◌, ℕ, ◌+◌, ◌-◌, ◌^◌, ◌<◌, ◌≤◌, min, List, [], ◌∷◌, ◌++◌, length, take, Option, None, Some, IfSome, IsSomeAnd, ◌⊎◌, cond, map, String, string_bytes}
 use Rattle.std.specs.Str.{bytes_eq}
+use Rattle.std.proofs.Common.{Bor}
 
 -- ------------------------------------------------------------------------------ files
 
@@ -36,6 +37,11 @@ abbrev pub appended : Option (List ℕ) → List ℕ → Option (List ℕ)
 appended None bytes = None
 appended (Some held) bytes = Some (held ++ bytes)
 
+-- the parts of a text, one after the other
+abbrev pub parts_text : List (Bor (List ℕ)) → List ℕ
+parts_text [] = []
+parts_text (p ∷ ps) = p.now ++ parts_text ps
+
 -- some first bytes of the text were appended
 abbrev pub AppendsPrefix : List ℕ → Option (List ℕ) → Option (List ℕ) → Type 0
 AppendsPrefix text old new = (n : ℕ) × (n ≤ length text) × (new ≡ appended old (take n text))
@@ -47,3 +53,7 @@ Rises old new = min (old + 1) (2 ^ 64 - 1) ≤ new
 -- a count is as before, and doesn't stand at 2^64 - 1
 abbrev pub IsAsBefore : ℕ → ℕ → Type 0
 IsAsBefore old new = (new ≡ old) × (new < 2 ^ 64 - 1)
+
+-- the bytes of the names
+abbrev pub texts : {A : Type 0} → List (String A) → List (List ℕ)
+texts names = map (λ s. string_bytes s) names

@@ -6,3 +6,4 @@
 #![tactic(auto)]
 
 pub mod outside;
+pub mod text;

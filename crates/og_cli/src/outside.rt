@@ -6,9 +6,9 @@
 //! shelf keeps the names that it failed at, and a sink counts its faults.
 
 ghost use Rattle.std.specs.Prelude.{◌≡◌, ◌≢◌, ℕ, ◌≤◌, List, [], length, take, Option, Ok, Err, OnOk, OnErr, IfOk, vec_len};
-ghost use Rattle.og_cli.specs.Outside.{Files, HasFile, HasLongFile, AddsName, AddsAtMost, appended, AppendsPrefix, Rises};
+ghost use Rattle.og_cli.specs.Outside.{Files, HasFile, HasLongFile, AddsName, AddsAtMost, appended, AppendsPrefix, Rises, texts, parts_text};
 
-use std::alloc::Global;
+use std::alloc::{AllocError, Global};
 
 pub mod memory;
 pub mod real;
@@ -49,6 +49,38 @@ pub trait Shelf {
         ensures within { IfOk result (λ bytes. vec_len bytes ≤ limit) }
         ensures added { result ≡ Err ShelfFault.Failed → AddsName name.now (failed self.old) (failed self.new) }
         ensures too_long { result ≡ Err ShelfFault.TooLong → HasLongFile (files self.old) name.now limit };
+}
+
+impl From<AllocError> for ShelfFault {
+    ghost use Rattle.std.specs.Prelude.{◌≡◌};
+    ghost use Rattle.og_cli.specs.declared.outside.ShelfFault.TheVariants.{Memory};
+
+    ghost from_gives = { λ _ e. e ≡ Memory };
+
+    fn from(_e: AllocError) -> ShelfFault {
+        ShelfFault::Memory
+    }
+}
+
+// Keeps a name.
+fn keep_name(names: &mut Vec<String>, alloc: Global, name: &str) -> Result<(), AllocError>
+    ensures kept { OnOk result (AddsName name.now (texts names.old.items) (texts names.new.items)) }
+    ensures unchanged { OnErr result (texts names.new.items ≡ texts names.old.items) }
+{
+    names.push(String::from_str(alloc, name)?)?;
+    Ok(())
+}
+
+// Keeps the name of a file that could not be read, and says what the fault is.
+fn name_fault(names: &mut Vec<String>, alloc: Global, name: &str) -> ShelfFault
+    ensures kept { result ≡ ShelfFault.Failed → AddsName name.now (texts names.old.items) (texts names.new.items) }
+    ensures unchanged { result ≢ ShelfFault.Failed → texts names.new.items ≡ texts names.old.items }
+    ensures short { result ≢ ShelfFault.TooLong }
+{
+    match keep_name(names, alloc, name) {
+        Ok(()) => ShelfFault::Failed,
+        Err(_) => ShelfFault::Memory,
+    }
 }
 
 /// What takes bytes, and may take fewer than it is given.
@@ -116,3 +148,22 @@ pub fn write_all<K: Sink>(sink: &mut K, text: &[u8]) -> Result<(), SinkFault>
     }
     Ok(())
 }
+
+/// Writes the parts of a text, one after the other, and takes no memory itself. After a refusal some
+/// first bytes of the text were appended, and the fault is that of the sink's last call.
+pub fn write_parts<K: Sink>(sink: &mut K, parts: &[&[u8]]) -> Result<(), SinkFault>
+    ensures whole { OnOk result (K.held sink.new ≡ appended (K.held sink.old) (parts_text parts.now)) }
+    ensures prefix { OnErr result (AppendsPrefix (parts_text parts.now) (K.held sink.old) (K.held sink.new)) }
+    ensures fault { result ≡ Err SinkFault.Failed → Rises (K.faults sink.old) (K.faults sink.new) }
+    ensures want { result ≡ Err SinkFault.Memory → Rises (K.wants sink.old) (K.wants sink.new) }
+    ensures faults_stay { K.faults sink.old ≤ K.faults sink.new }
+    ensures wants_stay { K.wants sink.old ≤ K.wants sink.new }
+{
+    for part in parts {
+        write_all(sink, part)?;
+    }
+    Ok(())
+}
+
+#[cfg(test)]
+mod tests;

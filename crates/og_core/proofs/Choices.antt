@@ -23,7 +23,7 @@ use Rattle.og_core.specs.declared.msg.Note.{Note}
 use Rattle.og_core.specs.Node.{NodeState, Setup, rules, can_act_of}
 use Rattle.og_core.specs.HartRuns.{flat_end}
 use Rattle.og_core.specs.Machine.{MachineState, IsMade, setup_in, is_stopped, is_quiet, refusal_of}
-use Rattle.og_core.specs.Simulation.{enabled_of, drain_of, next_choice, act_by, takes_of, in_order, id_before, sent_before}
+use Rattle.og_core.specs.Simulation.{act_count, acts_in, enabled_of, drain_of, next_choice, act_by, takes_of, in_order, id_before, sent_before}
 use Rattle.og_core.proofs.Sound.{Sound, NodeSound, Going, Waits}
 use Rattle.og_core.proofs.Reached.{made_sound, good_setup, act_there, take_row}
 use Rattle.og_core.proofs.Kept.{IsSetup}
@@ -102,3 +102,48 @@ next_made w c (waiting x block m seats flight r runs to) is =
     let same : Take 0 m.id ≡ c = cc in
     let there : same_id m.id m.id ≡ true = grind (arith, nat_tests) in
     subst (λ (d : Choice). refusal_of w d ≡ None) same (rw (seats, flight, there, to) refl)
+
+-- ------------------------------------------------------------ counting and naming them
+
+acts_and : (r : Result (Unit {0}) NotEnabled) (cs : List Choice) → act_count r + length cs ≡ length (act_by 0 r ++ cs)
+acts_and (Ok u) cs = omega arith
+acts_and (Err why) cs = omega arith
+
+pub count_is : (w : World NodeState Kind) → Shape w → acts_in w.seats + length w.flight ≡ length (enabled_of w)
+count_is w (idle x seats flight r) = rw (seats, flight) (acts_and (can_act_of x.local) [])
+count_is w (waiting x block m seats flight r runs to) = rw (seats, flight, to) (acts_and (can_act_of x.local) (Take 0 m.id ∷ []))
+
+pub few_flight : (w : World NodeState Kind) → Shape w → length w.flight ≤ 1
+few_flight w (idle x seats flight r) = rw flight (omega arith)
+few_flight w (waiting x block m seats flight r runs to) = rw flight (omega arith)
+
+act_first : (r : Result (Unit {0}) NotEnabled) (cs : List Choice) (at : ℕ) → at < act_count r → slice_get (act_by 0 r ++ cs) at ≡ Some (Act 0)
+act_first (Ok u) cs zero lt = refl
+act_first (Ok u) cs (suc at) lt = absurd (omega arith)
+act_first (Err why) cs at lt = absurd (omega arith)
+
+pub act_at_is : (w : World NodeState Kind) (at : ℕ) → Shape w → at < acts_in w.seats → slice_get (enabled_of w) at ≡ Some (Act 0)
+act_at_is w at (idle x seats flight r) lt = rw (seats, flight) (act_first (can_act_of x.local) [] at (rw seats at lt))
+act_at_is w at (waiting x block m seats flight r runs to) lt = rw (seats, flight, to) (act_first (can_act_of x.local) (Take 0 m.id ∷ []) at (rw seats at lt))
+
+take_after : (r : Result (Unit {0}) NotEnabled) (c d : Choice) (at : ℕ) → act_count r ≤ at → at < act_count r + 1 → slice_get (act_by 0 r ++ c ∷ []) at ≡ Some c
+take_after (Ok u) c d at low high = let one : at ≡ 1 = omega arith in rw one refl
+take_after (Err why) c d at low high = let none : at ≡ 0 = omega arith in rw none refl
+
+pub take_at_is : (w : World NodeState Kind) (at : ℕ) (k : Msg Kind) → Shape w → acts_in w.seats ≤ at → at < length (enabled_of w) → slice_get w.flight (at - acts_in w.seats) ≡ Some k → slice_get (enabled_of w) at ≡ Some (Take 0 k.id)
+take_at_is w at k (idle x seats flight r) low lt there =
+    let none : slice_get {X = Msg Kind} [] (at - acts_in w.seats) ≡ Some k = rw flight at there in absurd (cc)
+take_at_is w at k (waiting x block m seats flight r runs to) low lt there =
+    let count : acts_in w.seats + length w.flight ≡ length (enabled_of w) = count_is w (waiting x block m seats flight r runs to) in
+    let one : length w.flight ≡ 1 = rw flight refl in
+    let acts : acts_in w.seats ≡ act_count (can_act_of x.local) = rw seats refl in
+    let zero : at - acts_in w.seats ≡ 0 = omega arith in
+    let first : slice_get (m ∷ []) 0 ≡ Some k = rw (flight, zero) at there in
+    let same : m ≡ k = cc in
+    rw (seats, flight, to) (subst (λ (j : Msg Kind). slice_get (act_by 0 (can_act_of x.local) ++ Take 0 m.id ∷ []) at ≡ Some (Take 0 j.id)) same (take_after (can_act_of x.local) (Take 0 m.id) (Take 0 m.id) at (omega arith) (omega arith)))
+
+pub drained : (w : World NodeState Kind) → Shape w → is_stopped w ≡ true → drain_of w ≡ None → is_quiet w ≡ true
+drained w s stopped none = none_quiet w s (rw stopped none)
+
+pub quiet_drained : (w : World NodeState Kind) → Shape w → is_stopped w ≡ true → is_quiet w ≡ true → drain_of w ≡ None
+quiet_drained w s stopped quiet = rw stopped at (quiet_none w s quiet)

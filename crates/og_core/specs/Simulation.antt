@@ -50,6 +50,15 @@ enabled_from a (x ∷ xs) ms = act_by a (can_act_of x.local) ++ (takes_of a ms +
 abbrev pub enabled_of : World NodeState Kind → List Choice
 enabled_of w = enabled_from 0 w.seats w.flight
 
+-- how many acts of the first actor are enabled
+abbrev pub act_count : Result (Unit {0}) NotEnabled → ℕ
+act_count (Ok u) = 1
+act_count (Err why) = 0
+
+abbrev pub acts_in : List (Seat NodeState) → ℕ
+acts_in [] = 0
+acts_in (x ∷ xs) = act_count (can_act_of x.local)
+
 -- when all harts are stopped, the take of the message that was sent first
 abbrev pub drain_of : World NodeState Kind → Option Choice
 drain_of w = option_map (λ m. Take m.to m.id) (slice_get (in_order sent_before w.flight) 0)

@@ -7,6 +7,8 @@ ghost use Rattle.og_runs.specs.declared.Choice.TheVariants.{Act, Take};
 ghost use Rattle.rv_hart.specs.Layout.{layout_of, pages_of};
 ghost use Rattle.og_core.specs.Node.{letters_of, setup_of, rules, act_of, take_of, IsYoung, IsLow};
 ghost use Rattle.og_core.specs.Machine.{MachineState, Moves, setup_in, start_world, IsFor, IsMade, IsYoungWorld, refusal_of, is_stopped, is_quiet, start_of, new_seat};
+ghost use Rattle.og_core.specs.Simulation.{acts_in, enabled_of, drain_of};
+ghost use Rattle.std.specs.Prelude.{◌↔◌, true};
 ghost use Rattle.rv_hart.specs.Layout.{below};
 ghost use Rattle.std.specs.Prelude.{map};
 
@@ -234,6 +236,53 @@ impl Machine {
         ensures { result ≡ length self.now.world.flight }
     {
         self.messages.len() as u32
+    }
+}
+
+impl Machine {
+    /// How many acts are enabled.
+    fn acts(&self) -> u32
+        ensures { result ≡ acts_in self.now.world.seats }
+    {
+        match self.seats.first() {
+            Some(seat) if seat.local.can_act().is_ok() => 1,
+            _ => 0,
+        }
+    }
+
+    /// How many choices are enabled: at most one, since there is one node.
+    pub fn enabled_count(&self, image: &Image) -> u32
+        requires made { IsMade image.now self.now }
+        ensures count { result ≡ length (enabled_of self.now.world) }
+        ensures few { result ≤ 1 }
+    {
+        self.acts() + self.messages.len() as u32
+    }
+
+    /// The enabled choice with this number in their order: for each actor its act, then its takes.
+    pub fn enabled(&self, image: &Image, at: u32) -> Choice
+        requires made { IsMade image.now self.now }
+        requires inside { at < length (enabled_of self.now.world) }
+        ensures { slice_get (enabled_of self.now.world) at ≡ Some result }
+    {
+        let acts = self.acts();
+        if at < acts {
+            Choice::Act(0)
+        } else {
+            Choice::Take(0, self.messages[(at - acts) as usize].id)
+        }
+    }
+
+    /// When all harts have stopped: the take of the message that was sent first. None where the
+    /// machine is quiet.
+    pub fn drain_next(&self, image: &Image) -> Option<Choice>
+        requires made { IsMade image.now self.now }
+        requires stopped { is_stopped self.now.world ≡ true }
+        ensures next { result ≡ drain_of self.now.world }
+        ensures none { result ≡ None ↔ (is_quiet self.now.world ≡ true) }
+    {
+        let message = self.messages.first()?;
+        Some(Choice::Take(message.to, message.id))
     }
 }
 

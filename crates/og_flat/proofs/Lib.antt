@@ -1,1 +1,4 @@
 pub mod Start
+pub mod Lines
+pub mod Keeping
+pub mod Begun

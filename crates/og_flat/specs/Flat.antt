@@ -1,6 +1,6 @@
 -- Flat memory: a line per block of 128 addresses, and a reservation per hart. Accesses are made one at a time. It
 -- knows nothing of caches, messages, frames or moves.
-use Rattle.std.specs.Prelude.{ℕ, zero, suc, ◌+◌, ◌*◌, ◌/◌, ◌==◌, List, [], ◌∷◌, Option, None, if◌then◌else◌}
+use Rattle.std.specs.Prelude.{ℕ, zero, suc, ◌+◌, ◌*◌, ◌/◌, ◌==◌, List, [], ◌∷◌, ◌++◌, Option, None, if◌then◌else◌}
 use Rattle.og_line.specs.declared.Line.{Line}
 use Rattle.og_line.specs.declared.Reservation.{Reservation}
 use Rattle.og_line.specs.declared.Access.{Access}
@@ -40,6 +40,11 @@ bytes_from byte addr (suc count) = byte addr ∷ bytes_from byte (addr + 1) coun
 -- a block's line at the start
 abbrev pub start_line : (ℕ → ℕ) → ℕ → Line
 start_line byte block = record { bytes = bytes_from byte (128 * block) 128; stores = 0 }
+
+-- the lines of so many blocks from one on, at the start
+unfoldable pub start_lines : (ℕ → ℕ) → ℕ → ℕ → List Line
+start_lines byte first zero = []
+start_lines byte first (suc count) = start_lines byte first count ++ start_line byte (first + count) ∷ []
 
 -- memory at the start, by the byte of each address: no block has seen a store, and no hart has a reservation
 abbrev pub flat_start : (ℕ → ℕ) → Flat

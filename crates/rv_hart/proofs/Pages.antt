@@ -127,6 +127,7 @@ pages_rise image =
   where
     high : (n k : ℕ) → k < length (map stack_page (below n)) → 458752 ≤ get_or (map stack_page (below n)) k 0
     high n k lt = rw (stack_at n k lt) (omega arith)
+
     stacks : (n : ℕ) → IsStrictlyIncreasing (map stack_page (below n))
     stacks n k lt = rw (stack_at n k (omega arith), stack_at n (k + 1) lt) (omega arith)
 
@@ -134,7 +135,7 @@ append_below : (xs ys : List ℕ) (b k : ℕ) → ((k : ℕ) → k < length xs �
 append_below xs ys b k low high lt = grind (arith, common_steps, low k, high (k - length xs))
 
 -- and none is above the last stack page
-pub pages_small : (image : ImageState) (k : ℕ) → image.nodes ≤ 16 → k < length (pages_of image) → get_or (pages_of image) k 0 < 2 ^ 20
+pub pages_small : (image : ImageState) (k : ℕ) → image.nodes ≤ 255 → k < length (pages_of image) → get_or (pages_of image) k 0 < 2 ^ 20
 unfolding pages_of data_pages stack_pages
 pages_small image k few lt =
     append_below (filter (is_data_page image) (below 458752)) (map stack_page (below image.nodes)) (2 ^ 20) k

@@ -171,6 +171,16 @@ impl Image {
         self.entry
     }
 
+    /// What an image keeps: its program can be loaded, for at least one node and at most 255.
+    pub fn stays_loadable(&self)
+        ensures program { IsLoadable self.now.entry self.now.segments }
+        ensures some { 1 ≤ self.now.nodes }
+        ensures few { self.now.nodes ≤ 255 }
+    {
+        let _nodes = self.nodes;
+        let _ = &self.segments;
+    }
+
     /// The number of nodes that the program was loaded for.
     pub fn nodes(&self) -> u8
         ensures { result ≡ self.now.nodes }

@@ -105,7 +105,7 @@ impl Layout {
 }
 
 /// All pages that are placed, rising: the data pages, then a stack page for each hart.
-fn all_pages(alloc: Global, image: &Image) -> Result<Vec<u64>, NoMemory>
+pub fn all_pages(alloc: Global, image: &Image) -> Result<Vec<u64>, NoMemory>
     ensures { IfOk result (λ pages. pages.items ≡ pages_of image.now) }
 {
     let mut pages = data_pages(alloc, image)?;

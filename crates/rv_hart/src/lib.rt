@@ -10,4 +10,8 @@ pub mod hart;
 pub mod image;
 pub mod layout;
 pub mod raw;
+#[cfg(test)]
+mod tests;
+#[cfg(test)]
+mod vectors;
 mod work;

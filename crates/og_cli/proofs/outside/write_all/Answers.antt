@@ -1,6 +1,6 @@
-use Rattle.std.proofs.Common.{arith, List, ℕ, ◌≡◌, ◌++◌}
+use Rattle.std.proofs.Common.{arith}
 use Rattle.std.proofs.Math.Path.{◌∙◌}
-use Rattle.og_cli.specs.Outside.{appended, AppendsPrefix}
+use Rattle.og_cli.specs.Outside.{AppendsPrefix}
 use Rattle.og_cli.proofs.Pieces.{on_err, prefix_of_split, split_more}
 use Rattle.og_cli.proofs.outside.write_all.Goals as goal
 

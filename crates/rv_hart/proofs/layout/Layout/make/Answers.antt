@@ -11,6 +11,6 @@ invariant_of-result c =
       some = c.args.settings.now.nodes_in_range.0;
       few = c.args.settings.now.nodes_in_range.1;
       rising = subst (λ (xs : List ℕ). IsStrictlyIncreasing xs) (sym (c.in-Ok.ensures)) (pages_rise c.args.image.now);
-      low = λ k lt. subst (λ (xs : List ℕ). k < length xs → get_or xs k 0 < 2 ^ 20) (sym (c.in-Ok.ensures)) (pages_small c.args.image.now k few) lt;
+      low = λ k lt. subst (λ (xs : List ℕ). k < length xs → get_or xs k 0 < 2 ^ 20) (sym (c.in-Ok.ensures)) (pages_small c.args.image.now k (omega arith)) lt;
       room = let most : c.args.settings.now.nodes * c.args.settings.now.frames ≤ c.args.settings.now.nodes * 1024 = mul-le-mul_left c.args.settings.now.nodes c.args.settings.now.frames_in_range.1 in grind arith;
     }
