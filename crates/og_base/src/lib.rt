@@ -7,9 +7,8 @@
 
 ghost use Rattle.std.specs.Prelude.{◌≡◌, ℕ, ◌+◌, ◌*◌, ◌<◌, ◌≤◌};
 
-use std::alloc::AllocError;
-
 pub use og_runs::{Choice, MsgId, Stamp, act_stamp, take_stamp};
+use std::alloc::AllocError;
 
 /// A node's number, from 0.
 pub type NodeId = u8;

@@ -6,4 +6,5 @@
 #![tactic(auto)]
 
 pub mod outside;
+pub mod simulate;
 pub mod text;

@@ -7,7 +7,7 @@ ghost use Rattle.og_runs.specs.declared.Choice.TheVariants.{Act, Take};
 ghost use Rattle.rv_hart.specs.Layout.{layout_of, pages_of};
 ghost use Rattle.og_core.specs.Node.{letters_of, setup_of, rules, act_of, take_of, IsYoung, IsLow};
 ghost use Rattle.og_core.specs.Machine.{MachineState, Moves, setup_in, start_world, IsFor, IsMade, IsYoungWorld, refusal_of, is_stopped, is_quiet, start_of, new_seat};
-ghost use Rattle.og_core.specs.Simulation.{acts_in, enabled_of, drain_of};
+ghost use Rattle.og_core.specs.Simulation.{acts_in, enabled_of, drain_of, next_choice};
 ghost use Rattle.std.specs.Prelude.{◌↔◌, true};
 ghost use Rattle.rv_hart.specs.Layout.{below};
 ghost use Rattle.std.specs.Prelude.{map};
@@ -283,6 +283,21 @@ impl Machine {
     {
         let message = self.messages.first()?;
         Some(Choice::Take(message.to, message.id))
+    }
+
+    /// The next choice of a simulation: while a hart isn't stopped the enabled one, of which there is
+    /// at most one; afterwards the drain's.
+    pub fn next_choice(&self, image: &Image) -> Option<Choice>
+        requires { IsMade image.now self.now }
+        ensures { result ≡ next_choice self.now.world }
+    {
+        if self.stopped() {
+            return self.drain_next(image);
+        }
+        if self.enabled_count(image) == 0 {
+            return None;
+        }
+        Some(self.enabled(image, 0))
     }
 }
 

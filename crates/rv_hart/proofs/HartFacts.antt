@@ -30,9 +30,11 @@ has_instr image h goes = word (fetch_of image h.pc) refl
     late : (n : Need) (c : Cause) → fetched_need image h (fetch_of image h.pc) ≡ need.Stop c → (b : Bool) → h.left == 0 ≡ b → ⊥
     late n c e true z = goes Spent (ap (λ v. cond v (need.Stop Spent) (fetched_need image h (fetch_of image h.pc))) z)
     late n c e false z = goes c (ap (λ v. cond v (need.Stop Spent) (fetched_need image h (fetch_of image h.pc))) z ∙ e)
+
     decoded : (w : ℕ) (o : Option Instr) → fetch_of image h.pc ≡ Some w → decode_of w ≡ o → (i : Instr) × (instr_of image h ≡ Some i)
     decoded w None f d = absurd (late (need.Stop Illegal) Illegal (ap (λ x. fetched_need image h x) f ∙ ap (λ x. decoded_need image h x) d) (h.left == 0) refl)
     decoded w (Some i) f d = (i, ap (λ x. option_and_then decode_of x) f ∙ d)
+
     word : (o : Option ℕ) → fetch_of image h.pc ≡ o → (i : Instr) × (instr_of image h ≡ Some i)
     word None f = absurd (late (need.Stop Fetch) Fetch (ap (λ x. fetched_need image h x) f) (h.left == 0) refl)
     word (Some w) f = decoded w (decode_of w) f refl

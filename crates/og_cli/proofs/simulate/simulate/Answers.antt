@@ -1,0 +1,11 @@
+use Rattle.std.proofs.Common.{◌≡◌, subst, sym, Bool, List}
+use Rattle.og_runs.specs.declared.Event.{Event}
+use Rattle.og_core.specs.declared.msg.Note.{Note}
+use Rattle.og_cli.specs.Simulate.{IsSimulated, IsAdvanced}
+use Rattle.og_cli.proofs.Simulations.{simulated}
+use Rattle.og_cli.proofs.simulate.simulate.Goals as goal
+
+pub returns : goal.returns
+returns c =
+    subst (λ (b : Bool). IsSimulated c.args.image.now c.args.machine.now c.args.most c.sort_events.new.events.items b) (sym c.quiet-quiet.ensures)
+    (simulated c.args.image.now c.args.machine.now c.advance.new.machine c.args.most c.advance.new.events.items c.sort_events.new.events.items c.requires c.in_ok-advance.ensures c.sort_events.ensures.permutation (record { ordered = c.in_ok-sort_events.ensures.ordered; stable = c.sort_events.ensures.stable }))

@@ -1,0 +1,40 @@
+-- What a simulation is: its events are those of the choices that it draws, in the order of their stamps.
+use Rattle.std.specs.Prelude.{◌≡◌, ℕ, ◌<◌, ◌≤◌, Bool, false, List, length}
+use Rattle.og_runs.specs.declared.Event.{Event}
+use Rattle.og_runs.specs.Runs.{choices, IsSorted, Strict}
+use Rattle.og_runs.specs.World.{World, WorldRun}
+use Rattle.rv_hart.specs.Image.{ImageState}
+use Rattle.og_core.specs.declared.msg.Kind.{Kind}
+use Rattle.og_core.specs.declared.msg.Note.{Note}
+use Rattle.og_core.specs.Node.{NodeState, rules}
+use Rattle.og_core.specs.Machine.{MachineState, setup_in, is_quiet}
+use Rattle.og_core.specs.Simulation.{drawn}
+use Rattle.og_core.specs.FlatRun.{FlatRun, hart_notes}
+
+-- what so many events at most have made of the machine m, which was at its start: the events are a run to n, and just
+-- those that the simulation draws
+pub record IsAdvanced (image : ImageState) (m n : MachineState) (most : ℕ) (events : List (Event Note)) : Type 0 where
+  pub kept : n ≡ record m { world = n.world }
+  pub run : WorldRun (rules (setup_in image m)) m.world (choices events) n.world events
+  pub is_drawn : drawn (setup_in image m) most m.world ≡ (n.world, events)
+  pub few : length events ≤ most
+  pub full : is_quiet n.world ≡ false → length events ≡ most
+
+-- from the machine m, which is at its start, a simulation of at most so many events has these events in the order of
+-- their stamps, and ends quiet or not
+pub record IsSimulated (image : ImageState) (m : MachineState) (most : ℕ) (events : List (Event Note)) (quiet : Bool) : Type 0 where
+  -- the last state
+  pub end : World NodeState Kind
+  -- the choices of the events, in their order, lead the machine from its start to the end, with just these events
+  pub run : WorldRun (rules (setup_in image m)) m.world (choices events) end events
+  -- the stamps rise strictly
+  pub strict : Strict events
+  -- the events are those of the choices that the simulation draws, by their stamps
+  pub is_drawn : IsSorted (drawn (setup_in image m) most m.world).1 events
+  -- it is quiet exactly where the end is
+  pub quiet_is : quiet ≡ is_quiet end
+  -- where it isn't quiet, all events were made
+  pub full : quiet ≡ false → length events ≡ most
+  pub few : length events ≤ most
+  -- what the harts did is a flat run
+  pub flat : FlatRun image m.instructions (hart_notes events)
