@@ -4,9 +4,9 @@
 //! then, each at most once and in any order, `--raw`, `--nodes D`, `--events D` and
 //! `--instructions D`. D is a decimal number without leading zeros.
 
-ghost use Rattle.std.specs.Prelude.{◌≡◌, ◌^◌, ◌<◌, ◌≤◌, ◌↔◌, ◌==◌, Option, None, Some, Err, IfSome, IfOk, MatchOption, string_bytes};
+ghost use Rattle.std.specs.Prelude.{◌≡◌, ◌≤◌, ◌↔◌, Option, None, Some, Err, IfSome, IfOk, MatchOption, string_bytes};
 ghost use Rattle.og_cli.specs.Outside.{texts};
-ghost use Rattle.og_cli.specs.Words.{JobState, job_seen, number_in as number_of, first_number as number_chosen, no_choices, choose_raw as raw_chosen, choose_number as chosen, options_of, AreInRange, begins_with_dash as has_dash, job_with, job_of};
+ghost use Rattle.og_cli.specs.Words.{job_seen, number_in as number_of, first_number as number_chosen, choose_raw as raw_chosen, choose_number as chosen, options_of, AreInRange, begins_with_dash as has_dash, job_with, job_of};
 
 use itoa::Buffer;
 use std::alloc::{AllocError, Global};
