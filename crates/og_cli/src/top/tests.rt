@@ -69,13 +69,7 @@ fn answer_with(
 fn answer_to(alloc: Global, line: &str, bytes: &[u8]) -> Result<Answer, Fail> {
     let words = words_of(alloc, line)?;
     let shelf = shelf_with(alloc, bytes, Vec::new(alloc))?;
-    Ok(answer_with(
-        alloc,
-        &words,
-        shelf,
-        whole_sink(alloc),
-        whole_sink(alloc),
-    ))
+    Ok(answer_with(alloc, &words, shelf, whole_sink(alloc), whole_sink(alloc)))
 }
 
 // The answer to the run of the program, with these sinks.
@@ -116,8 +110,16 @@ fn a_refusal_is_one_line(rt: HostRuntime) -> Result<(), Fail> {
         ("simulate store.raw --frobnicate", 2, b"origin: words\n"),
         ("simulate store.raw", 9, b"origin: not built\n"),
         ("simulate missing", 9, b"origin: not built\n"),
-        ("simulate store.raw --raw --nodes 2", 9, b"origin: not built\n"),
-        ("simulate missing --raw", 1, b"origin: cannot read missing\n"),
+        (
+            "simulate store.raw --raw --nodes 2",
+            9,
+            b"origin: not built\n",
+        ),
+        (
+            "simulate missing --raw",
+            1,
+            b"origin: cannot read missing\n",
+        ),
         ("simulate  --raw", 1, b"origin: cannot read \n"),
     ];
     for (line, status, text) in table {
@@ -150,7 +152,10 @@ fn a_read_may_fail(rt: HostRuntime) -> Result<(), Fail> {
     let answer = answer_with(alloc, &words, shelf, whole_sink(alloc), whole_sink(alloc));
     assert_eq!(rt; answer.status, 1);
     assert_eq!(rt; answer.out.held(), b"".as_slice());
-    assert_eq!(rt; answer.err.held(), b"origin: cannot read store.raw\n".as_slice());
+    assert_eq!(rt;
+        answer.err.held(),
+        b"origin: cannot read store.raw\n".as_slice()
+    );
     Ok(())
 }
 
@@ -167,7 +172,11 @@ fn a_file_may_be_no_image(rt: HostRuntime) -> Result<(), Fail> {
         let answer = answer_to(rt.alloc(), "simulate store.raw --raw", bytes)?;
         assert_eq!(rt; answer.status, 4, "{bytes:?}");
         assert_eq!(rt; answer.out.held(), b"".as_slice(), "{bytes:?}");
-        assert_eq!(rt; answer.err.held(), b"origin: image RawOut\n".as_slice(), "{bytes:?}");
+        assert_eq!(rt;
+            answer.err.held(),
+            b"origin: image RawOut\n".as_slice(),
+            "{bytes:?}"
+        );
     }
     Ok(())
 }
@@ -193,7 +202,11 @@ fn a_sink_that_fails_holds_what_it_took(rt: HostRuntime) -> Result<(), Fail> {
         let answer = answer_through(alloc, out, whole_sink(alloc))?;
         assert_eq!(rt; answer.status, 14, "{taken}");
         assert_eq!(rt; answer.out.held(), &TEXT[..taken], "{taken}");
-        assert_eq!(rt; answer.err.held(), b"origin: cannot write\n".as_slice(), "{taken}");
+        assert_eq!(rt;
+            answer.err.held(),
+            b"origin: cannot write\n".as_slice(),
+            "{taken}"
+        );
     }
     Ok(())
 }
