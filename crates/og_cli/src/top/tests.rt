@@ -101,6 +101,68 @@ fn a_run_prints_its_text(rt: HostRuntime) -> Result<(), Fail> {
     Ok(())
 }
 
+/// A run tells how its hart stopped: by a trap of each kind, or after two emits by its exit.
+#[test]
+fn a_run_tells_its_cause(rt: HostRuntime) -> Result<(), Fail> {
+    let table: &[(&[u8], &[u8])] = &[
+        (
+            b"\x04\x00\x00\x00\x73\x00\x00\x00",
+            b"act 0\nat 1 0 trap call 0000000000010000\nquiet 1 0\n",
+        ),
+        (
+            b"\x08\x00\x00\x00\x13\x05\x10\x00\x00\x00\x00\x00",
+            b"act 0\nact 0\nat 2 0 trap illegal 0000000000010004\nquiet 2 0\n",
+        ),
+        (
+            b"\x08\x00\x00\x00\xb7\x05\x10\x00\x67\x80\x05\x00",
+            b"act 0\nact 0\nact 0\nat 3 0 trap fetch 0000000000100000\nquiet 3 0\n",
+        ),
+        (
+            b"\x08\x00\x00\x00\xb7\x05\x01\x00\x67\x80\x25\x00",
+            b"act 0\nact 0\nat 2 0 trap misaligned 0000000000010004\nquiet 2 0\n",
+        ),
+        (
+            b"\x08\x00\x00\x00\xb7\x05\x10\x00\x03\xa6\x25\x00",
+            b"act 0\nact 0\nat 2 0 trap misaligned 0000000000010004\nquiet 2 0\n",
+        ),
+        (
+            b"\x08\x00\x00\x00\xb7\x05\x20\x00\x03\xa6\x05\x00",
+            b"act 0\nact 0\nat 2 0 trap unmapped 0000000000010004\nquiet 2 0\n",
+        ),
+        (
+            b"\x04\x00\x00\x00\x73\x00\x10\x00",
+            b"act 0\nat 1 0 trap break 0000000000010000\nquiet 1 0\n",
+        ),
+        (
+            b"\x20\x00\x00\x00\x93\x08\x10\x00\x13\x05\x70\x00\x73\x00\x00\x00\
+                \x13\x05\x15\x00\x73\x00\x00\x00\x93\x08\xd0\x05\x13\x05\x00\x00\
+                \x73\x00\x00\x00",
+            b"act 0\nact 0\nact 0\nat 3 0 emit 0000000000000007\nact 0\nact 0\nat 5 0 emit 0000000000000008\nact 0\nact 0\nact 0\nat 8 0 exit 0000000000000000\nquiet 8 0\n",
+        ),
+    ];
+    for (bytes, text) in table {
+        let answer = answer_to(rt.alloc(), "simulate store.raw --raw", bytes)?;
+        assert_eq!(rt; answer.status, 0, "{bytes:?}");
+        assert_eq!(rt; answer.out.held(), *text, "{bytes:?}");
+        assert_eq!(rt; answer.err.held(), b"".as_slice(), "{bytes:?}");
+    }
+    Ok(())
+}
+
+/// A sink that takes eight bytes in a call and fails at the second holds the first eight.
+#[test]
+fn a_sink_may_fail_at_its_second_call(rt: HostRuntime) -> Result<(), Fail> {
+    let alloc = rt.alloc();
+    let out = MemorySink::make(alloc, 8, vec![in alloc; 2]?);
+    let words = words_of(alloc, "simulate store.raw --raw")?;
+    let shelf = shelf_with(alloc, b"\x04\x00\x00\x00\x73\x00\x00\x00", Vec::new(alloc))?;
+    let answer = answer_with(alloc, &words, shelf, out, whole_sink(alloc));
+    assert_eq!(rt; answer.status, 14);
+    assert_eq!(rt; answer.out.held(), b"act 0\nat".as_slice());
+    assert_eq!(rt; answer.err.held(), b"origin: cannot write\n".as_slice());
+    Ok(())
+}
+
 /// A command that isn't done says why in one line, and prints nothing.
 #[test]
 fn a_refusal_is_one_line(rt: HostRuntime) -> Result<(), Fail> {
@@ -108,6 +170,11 @@ fn a_refusal_is_one_line(rt: HostRuntime) -> Result<(), Fail> {
         ("", 2, b"origin: words\n"),
         ("simulate", 2, b"origin: words\n"),
         ("simulate store.raw --frobnicate", 2, b"origin: words\n"),
+        ("simulate store.raw --nodes 0", 2, b"origin: words\n"),
+        ("simulate store.raw --nodes 01", 2, b"origin: words\n"),
+        ("simulate store.raw --raw --raw", 2, b"origin: words\n"),
+        ("simulate -- store.raw", 2, b"origin: words\n"),
+        ("replay store.raw", 2, b"origin: words\n"),
         ("simulate store.raw", 9, b"origin: not built\n"),
         ("simulate missing", 9, b"origin: not built\n"),
         (
