@@ -1,5 +1,5 @@
 -- Blocks by their numbers: in the machine, and in flat memory.
-use Rattle.std.proofs.Common.{◌≡◌, ◌≢◌, ℕ, zero, suc, ◌+◌, ◌-◌, ◌*◌, ◌/◌, ◌%◌, ◌<◌, ◌≤◌, Bool, true, false, cond, nat_eq, List, [], ◌∷◌, length, get_or, Option, Some, None, ◌⊎◌, inl, inr, arith, refl, sym, subst, ap, ◌∙◌, nat_lt}
+use Rattle.std.proofs.Common.{◌≡◌, ℕ, suc, ◌+◌, ◌-◌, ◌*◌, ◌/◌, ◌%◌, ◌<◌, true, false, cond, nat_eq, List, length, get_or, Option, Some, None, ◌⊎◌, inl, inr, arith, refl, sym, ap, ◌∙◌, nat_lt}
 use Rattle.std.specs.Prelude.{slice_get, slice_set}
 use Rattle.std.specs.List.{position}
 use Rattle.std.specs.List.Sorted.{IsStrictlyIncreasing}
@@ -11,9 +11,7 @@ use Rattle.rv_hart.proofs.Pages.{rises}
 use Rattle.std.proofs.lemmas.List.Quantifiers.{position-Some}
 use Rattle.og_base.specs.declared.Block.{Block}
 use Rattle.og_base.specs.declared.Frame.{Frame}
-use Rattle.og_line.specs.declared.Access.{Access}
-use Rattle.og_line.specs.Access.{addr_of}
-use Rattle.rv_hart.specs.Layout.{LayoutState, first_frame, frame_at}
+use Rattle.rv_hart.specs.Layout.{LayoutState, frame_at}
 use Rattle.og_core.specs.Node.{block_at, block_number, home_number}
 
 -- reading a list after one write

@@ -1,7 +1,6 @@
 -- Which choices are enabled in the machine of one node, and that a machine that isn't quiet has one.
-use Rattle.std.proofs.Common.{◌≡◌, ◌≢◌, ℕ, zero, suc, ◌+◌, ◌-◌, ◌<◌, ◌≤◌, ◌^◌, Bool, true, false, cond, nat_eq, List, [], ◌∷◌, ◌++◌, length, map, Option, Some, None, ◌⊎◌, inl, inr, arith, refl, sym, subst, ap, ◌∙◌, Ok, Err, Result}
+use Rattle.std.proofs.Common.{◌≡◌, ℕ, zero, suc, ◌+◌, ◌-◌, ◌<◌, ◌≤◌, true, false, List, [], ◌∷◌, ◌++◌, length, map, Option, Some, None, arith, refl, subst, Ok, Err, Result}
 use Rattle.std.specs.Prelude.{slice_get}
-use Rattle.std.specs.List.{filter}
 use Rattle.std.specs.Option.{option_map}
 use Rattle.og_base.specs.declared.Block.{Block}
 use Rattle.og_base.specs.declared.Cause.{Cause}
@@ -9,24 +8,20 @@ use Rattle.og_base.specs.declared.NotEnabled.{NotEnabled}
 use Rattle.og_base.specs.declared.NotEnabled.TheVariants.{Outstanding}
 use Rattle.og_runs.specs.Runs.{same_id}
 use Rattle.std.proofs.lemmas.Bool.Decides.{nat_tests}
-use Rattle.og_flat.specs.Flat.{Flat, flat_start}
+use Rattle.og_flat.specs.Flat.{flat_start}
 use Rattle.og_runs.specs.declared.Choice.{Choice}
 use Rattle.og_runs.specs.declared.Choice.TheVariants.{Act, Take}
-use Rattle.og_runs.specs.declared.Event.{Event}
 use Rattle.og_runs.specs.declared.Msg.{Msg}
-use Rattle.og_runs.specs.declared.MsgId.{MsgId}
 use Rattle.og_runs.specs.declared.Seat.{Seat}
-use Rattle.og_runs.specs.World.{World, world_step, find}
+use Rattle.og_runs.specs.World.{World}
 use Rattle.rv_hart.specs.Image.{ImageState, start_byte}
 use Rattle.og_core.specs.declared.msg.Kind.{Kind}
-use Rattle.og_core.specs.declared.msg.Note.{Note}
-use Rattle.og_core.specs.Node.{NodeState, Setup, rules, can_act_of}
+use Rattle.og_core.specs.Node.{NodeState, can_act_of}
 use Rattle.og_core.specs.HartRuns.{flat_end}
 use Rattle.og_core.specs.Machine.{MachineState, IsMade, setup_in, is_stopped, is_quiet, refusal_of}
-use Rattle.og_core.specs.Simulation.{act_count, acts_in, enabled_of, drain_of, next_choice, act_by, takes_of, in_order, id_before, sent_before}
-use Rattle.og_core.proofs.Sound.{Sound, NodeSound, Going, Waits}
-use Rattle.og_core.proofs.Reached.{made_sound, good_setup, act_there, take_row}
-use Rattle.og_core.proofs.Kept.{IsSetup}
+use Rattle.og_core.specs.Simulation.{act_count, acts_in, enabled_of, drain_of, next_choice, act_by}
+use Rattle.og_core.proofs.Sound.{Sound, Going}
+use Rattle.og_core.proofs.Reached.{made_sound}
 
 -- the one node is idle, and no message is in flight; or it waits, and one message is in flight to it
 pub data Shape (w : World NodeState Kind) : Type 0 where

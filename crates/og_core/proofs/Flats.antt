@@ -1,19 +1,16 @@
 -- Once for all machines: harts whose accesses have the flat memory's answers make a flat run.
-use Rattle.std.proofs.Common.{◌≡◌, ◌≢◌, ℕ, zero, suc, ◌+◌, ◌<◌, Bool, true, false, cond, nat_eq, List, [], ◌∷◌, Option, Some, None, ◌⊎◌, inl, inr, arith, refl, sym, subst, ap, ◌∙◌}
+use Rattle.std.proofs.Common.{◌≡◌, ◌≢◌, ℕ, zero, suc, ◌+◌, true, false, cond, nat_eq, List, [], ◌∷◌, Option, Some, None, ◌⊎◌, inl, inr, arith, refl, sym, subst, ap, ◌∙◌}
 use Rattle.std.proofs.lemmas.Bool.Decides.{nat_tests}
 use Rattle.std.proofs.lemmas.Bool.{cases_Bool}
-use Rattle.og_base.specs.declared.Cause.{Cause}
-use Rattle.og_line.specs.declared.Access.{Access}
-use Rattle.og_flat.specs.Flat.{Flat, flat_answer, flat_next}
+use Rattle.og_flat.specs.Flat.{Flat}
 use Rattle.og_runs.specs.declared.Event.{Event}
 use Rattle.rv_hart.specs.declared.hart.Need.{Need}
 use Rattle.rv_hart.specs.declared.hart.Need.TheVariants as need
-use Rattle.rv_hart.specs.Hart.{HartState, need_of, finish_of, halt_of}
+use Rattle.rv_hart.specs.Hart.{HartState, need_of, finish_of}
 use Rattle.rv_hart.specs.Image.{ImageState}
 use Rattle.rv_hart.proofs.HartFacts.{finish_keeps, finish_left}
 use Rattle.og_core.specs.declared.msg.Note.{Note}
 use Rattle.og_core.specs.declared.msg.Note.TheVariants as note
-use Rattle.og_core.specs.Node.{stop_note}
 use Rattle.og_core.specs.FlatRun.{goes_on, settled_within, settled, FlatState, with_hart, Entry, hart_next, memory_next, flat_step, FlatRunFrom, hart_notes, with_note, of_hart}
 use Rattle.og_core.specs.HartRuns.{HartMove, HartsRun, Stops, Answered, AnswersFlat, flat_noted}
 

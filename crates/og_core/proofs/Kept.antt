@@ -1,9 +1,8 @@
 -- Each event of the machine of one node keeps what holds of it, and answers as the flat memory does.
-use Rattle.std.proofs.Common.{◌≡◌, ◌≢◌, ℕ, zero, suc, ◌+◌, ◌-◌, ◌*◌, ◌/◌, ◌%◌, ◌<◌, ◌≤◌, Bool, true, false, cond, nat_eq, List, [], ◌∷◌, ◌++◌, length, get_or, Option, Some, None, ◌⊎◌, inl, inr, arith, refl, sym, subst, ap, ◌∙◌, length-set}
+use Rattle.std.proofs.Common.{◌≡◌, ◌≢◌, ℕ, ◌+◌, ◌*◌, ◌/◌, ◌%◌, ◌<◌, ◌≤◌, true, false, nat_eq, List, [], ◌∷◌, ◌++◌, length, Option, Some, None, inl, inr, arith, refl, sym, subst, ap, ◌∙◌, length-set}
 use Rattle.std.specs.Prelude.{slice_get, slice_set}
 use Rattle.std.specs.List.Sorted.{IsStrictlyIncreasing}
 use Rattle.std.proofs.lemmas.Bool.Decides.{nat_tests}
-use Rattle.std.proofs.lemmas.Bool.{cases_Bool}
 use Rattle.std.proofs.lemmas.Grind.{common_steps}
 use Rattle.std.proofs.lemmas.Option.{gets}
 use Rattle.og_base.specs.declared.Block.{Block}
@@ -15,7 +14,6 @@ use Rattle.og_line.specs.declared.Reservation.{Reservation}
 use Rattle.og_line.specs.Access.{addr_of, answer_of}
 use Rattle.og_flat.specs.Flat.{Flat, flat_answer, flat_next, block_of}
 use Rattle.og_runs.specs.declared.Msg.{Msg}
-use Rattle.og_runs.specs.declared.Letter.{Letter}
 use Rattle.og_runs.specs.Runs.{Outcome, posted}
 use Rattle.rv_hart.specs.declared.hart.Need.{Need}
 use Rattle.rv_hart.specs.declared.hart.Need.TheVariants as need
@@ -27,10 +25,11 @@ use Rattle.og_core.specs.declared.msg.Kind.{Kind}
 use Rattle.og_core.specs.declared.msg.Kind.TheVariants.{ReadEx, ExclusiveReply}
 use Rattle.og_core.specs.declared.msg.Note.{Note}
 use Rattle.og_core.specs.declared.msg.Note.TheVariants as note
-use Rattle.og_core.specs.Node.{NodeState, Setup, Gives, act_of, by_state, by_need, by_block, by_copy, take_of, completed, access_note, stop_note, same_block, take_by, by_request, by_fill, by_entry, block_at, block_number, home_number}
+use Rattle.og_core.specs.Node.{NodeState, Setup, act_of, by_state, by_need, by_block, by_copy, take_of, completed, access_note, stop_note, same_block, take_by, by_request, by_fill, by_entry, block_at, block_number, home_number}
 use Rattle.og_runs.proofs.Shown.{slice_get_some}
 use Rattle.og_core.specs.HartRuns.{flat_noted, AnswersFlat, HartMove}
-use Rattle.og_core.proofs.Sound.{Sizes, Holds, Low, Free, Going, Waits, Asks, NodeSound, held, held_by}
+use Rattle.og_core.proofs.Sound.{Sizes, Holds, Low, Free, Going, Waits, Asks, NodeSound}
+use Rattle.og_core.specs.Held.{held, held_by}
 use Rattle.og_core.proofs.Blocks.{Place, place_of, numbers}
 use Rattle.og_core.proofs.Steps.{found, completed_sizes, completed_holds, completed_low, completed_free}
 

@@ -1,21 +1,20 @@
 -- One step of the machine, from what its parts did.
-use Rattle.std.proofs.Common.{◌≡◌, ◌≢◌, ℕ, ◌+◌, ◌<◌, ◌≤◌, ◌^◌, Bool, true, false, cond, nat_eq, List, [], ◌∷◌, ◌++◌, length, get_or, Option, Some, None, arith, refl, sym, subst, ap, ◌∙◌, Ok, Err}
+use Rattle.std.proofs.Common.{◌≡◌, ◌≢◌, ℕ, ◌<◌, true, nat_eq, List, length, get_or, Some, None, arith, refl, sym, subst, Ok}
 use Rattle.std.specs.Prelude.{slice_get, slice_set}
 use Rattle.std.proofs.lemmas.Option.{slice_get_read}
 use Rattle.std.proofs.lemmas.Bool.Decides.{nat_tests}
-use Rattle.og_runs.specs.declared.Choice.{Choice}
 use Rattle.og_runs.specs.declared.Choice.TheVariants.{Act, Take}
 use Rattle.og_runs.specs.declared.Event.{Event}
 use Rattle.og_runs.specs.declared.Msg.{Msg}
 use Rattle.og_runs.specs.declared.MsgId.{MsgId}
 use Rattle.og_runs.specs.declared.Seat.{Seat}
-use Rattle.og_runs.specs.World.{World, world_step, world_move, world_take, find}
+use Rattle.og_runs.specs.World.{world_step, find}
 use Rattle.rv_hart.specs.Image.{ImageState}
 use Rattle.rv_hart.specs.Layout.{LayoutState}
 use Rattle.og_core.specs.declared.msg.Kind.{Kind}
 use Rattle.og_core.specs.declared.msg.Note.{Note}
-use Rattle.og_core.specs.Node.{NodeState, rules, act_of, take_of, can_act_of, setup_of, IsYoung, IsLow}
-use Rattle.og_core.specs.Machine.{MachineState, Moves, IsMade, IsYoungWorld, setup_in, refusal_of, take_refusal, message_refusal, refusal_by}
+use Rattle.og_core.specs.Node.{NodeState, rules, act_of, take_of, can_act_of, setup_of}
+use Rattle.og_core.specs.Machine.{MachineState, Moves, IsMade, setup_in}
 use Rattle.og_core.proofs.Reached.{act_there, take_row}
 
 -- the machine's parts, as its fields have them

@@ -1,17 +1,15 @@
 -- What holds of every run of the machine of one node.
-use Rattle.std.proofs.Common.{◌≡◌, ◌≢◌, ℕ, zero, suc, ◌+◌, ◌-◌, ◌*◌, ◌/◌, ◌%◌, ◌<◌, ◌≤◌, ◌^◌, Bool, true, false, cond, nat_eq, List, [], ◌∷◌, ◌++◌, length, get_or, Option, Some, None, ◌⊎◌, inl, inr, arith, refl, sym, subst, ap, ◌∙◌, max}
-use Rattle.std.specs.Prelude.{slice_get, Ok, Err}
+use Rattle.std.proofs.Common.{◌≡◌, ◌≢◌, ℕ, zero, suc, ◌+◌, ◌*◌, ◌/◌, ◌%◌, ◌<◌, ◌≤◌, ◌^◌, true, nat_eq, List, [], ◌∷◌, length, Option, Some, None, arith, refl, sym, subst, ap, ◌∙◌}
+use Rattle.std.specs.Prelude.{slice_get, Ok}
 use Rattle.og_flat.specs.Flat.{Flat, flat_start}
 use Rattle.og_runs.specs.declared.Choice.{Choice}
 use Rattle.og_runs.specs.declared.Event.{Event}
 use Rattle.og_runs.specs.declared.Msg.{Msg}
 use Rattle.og_runs.specs.declared.MsgId.{MsgId}
 use Rattle.og_runs.specs.declared.Seat.{Seat}
-use Rattle.og_runs.specs.World.{World, WorldRun, world_step, find}
+use Rattle.og_runs.specs.World.{World, WorldRun, find}
 use Rattle.std.specs.List.{position}
-use Rattle.std.specs.Option.{option_map}
 use Rattle.og_base.specs.declared.Block.{Block}
-use Rattle.og_base.specs.declared.Frame.{Frame}
 use Rattle.og_base.specs.declared.Cause.{Cause}
 use Rattle.og_line.specs.declared.Line.{Line}
 use Rattle.og_line.specs.declared.Access.{Access}
@@ -26,7 +24,7 @@ use Rattle.rv_hart.proofs.Placed.{placed_page}
 use Rattle.og_core.specs.declared.msg.Kind.TheVariants.{ReadEx, ExclusiveReply}
 use Rattle.og_core.proofs.Blocks.{Place, place_of, numbers}
 use Rattle.rv_hart.specs.Image.{ImageState, start_byte}
-use Rattle.rv_hart.specs.Layout.{LayoutState, layout_of, pages_of}
+use Rattle.rv_hart.specs.Layout.{LayoutState, pages_of}
 use Rattle.rv_hart.proofs.Pages.{pages_rise}
 use Rattle.og_core.specs.declared.msg.Kind.{Kind}
 use Rattle.og_core.specs.declared.msg.Note.{Note}
@@ -40,7 +38,7 @@ use Rattle.og_core.proofs.Sound.{Sound, NodeSound, Sizes, Going, Asks}
 use Rattle.og_core.proofs.Kept.{IsSetup, take_there}
 use Rattle.og_core.proofs.Worlds.{Stepped, step_sound, only_message, clock_found}
 use Rattle.og_core.proofs.Starts.{start_sound, seats_one}
-use Rattle.og_core.proofs.Flats.{flat_from, Behind}
+use Rattle.og_core.proofs.Flats.{flat_from}
 
 -- what a run leaves, and what its events are
 pub record Reached (setup : Setup) (n : ℕ) (flat : Flat) (harts : ℕ → HartState) (u : World NodeState Kind) (es : List (Event Note)) : Type 0 where

@@ -1,38 +1,27 @@
 -- What holds of the machine of one node in every state, beside the flat memory after the accesses so far.
-use Rattle.std.proofs.Common.{◌≡◌, ℕ, ◌+◌, ◌*◌, ◌<◌, ◌≤◌, Bool, true, false, nat_eq, List, [], ◌∷◌, length, get_or, Option, Some, None, ◌⊎◌}
+use Rattle.std.proofs.Common.{◌≡◌, ℕ, ◌+◌, ◌*◌, ◌<◌, ◌≤◌, Bool, false, nat_eq, List, [], ◌∷◌, length, get_or, Option, Some, None}
 use Rattle.std.specs.Prelude.{slice_get}
 use Rattle.og_base.specs.declared.Block.{Block}
 use Rattle.og_line.specs.declared.Line.{Line}
 use Rattle.og_line.specs.declared.Access.{Access}
-use Rattle.og_line.specs.Line.{zero_line}
 use Rattle.og_line.specs.Access.{addr_of}
 use Rattle.og_flat.specs.Flat.{Flat}
 use Rattle.og_runs.specs.declared.Msg.{Msg}
-use Rattle.og_runs.specs.declared.MsgId.{MsgId}
 use Rattle.og_runs.specs.declared.Seat.{Seat}
-use Rattle.og_runs.specs.World.{World, find}
+use Rattle.og_runs.specs.World.{World}
 use Rattle.rv_hart.specs.declared.hart.Need.TheVariants as need
 use Rattle.rv_hart.specs.Hart.{need_of}
-use Rattle.og_core.specs.declared.directory.Entry.{Entry}
 use Rattle.og_core.specs.declared.directory.Entry.TheVariants.{Unowned}
 use Rattle.og_core.specs.declared.msg.Kind.{Kind}
 use Rattle.og_core.specs.declared.msg.Kind.TheVariants.{ReadEx, ExclusiveReply}
 use Rattle.og_core.specs.Node.{NodeState, Setup, block_at, block_number, home_number}
+use Rattle.og_core.specs.Held.{held}
 
 -- each block has its place in the cache and at home
 pub record Sizes (frames : ℕ) (x : NodeState) : Type 0 where
   pub copies : length x.copies ≡ frames * 32
   pub entries : length x.entries ≡ frames * 32
   pub lines : length x.lines ≡ frames * 32
-
-abbrev pub held_by : Option (Option Line) → Option Line → Line
-held_by (Some (Some line)) home = line
-held_by copy (Some line) = line
-held_by copy None = zero_line
-
--- the line that the machine holds for the block with this number: the node's copy, or else the home's line
-abbrev pub held : NodeState → ℕ → Line
-held x j = held_by (slice_get x.copies j) (slice_get x.lines j)
 
 -- each placed block holds the flat memory's line, and the hart's reservation is the flat memory's
 pub record Holds (setup : Setup) (flat : Flat) (x : NodeState) : Type 0 where

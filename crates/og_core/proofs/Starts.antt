@@ -1,24 +1,19 @@
 -- The machine of one node is sound at the start.
-use Rattle.std.proofs.Common.{◌≡◌, ◌≢◌, ℕ, zero, suc, ◌+◌, ◌-◌, ◌*◌, ◌/◌, ◌%◌, ◌<◌, ◌≤◌, Bool, true, false, cond, nat_eq, List, [], ◌∷◌, ◌++◌, length, get_or, map, replicate, Option, Some, None, ◌⊎◌, inl, inr, arith, refl, sym, subst, ap, ◌∙◌}
+use Rattle.std.proofs.Common.{◌≡◌, ℕ, ◌+◌, ◌*◌, ◌/◌, ◌%◌, ◌<◌, ◌≤◌, List, [], ◌∷◌, length, get_or, replicate, Option, Some, None, arith, refl, subst, ap, ◌∙◌}
 use Rattle.std.specs.Prelude.{slice_get}
-use Rattle.std.proofs.lemmas.Bool.Decides.{nat_tests}
-use Rattle.std.proofs.lemmas.Grind.{common_steps}
-use Rattle.std.proofs.lemmas.Option.{gets, slice_get-map, slice_get-get_or, slice_get_within}
+use Rattle.std.proofs.lemmas.Option.{slice_get-map, slice_get-get_or, slice_get_within}
 use Rattle.std.proofs.lemmas.List.{length-map, length-replicate, get_or-replicate}
 use Rattle.og_line.specs.declared.Line.{Line}
-use Rattle.og_line.specs.Line.{zero_line}
-use Rattle.og_flat.specs.Flat.{Flat, flat_start, start_line}
-use Rattle.og_runs.specs.World.{World}
+use Rattle.og_flat.specs.Flat.{flat_start, start_line}
 use Rattle.rv_hart.specs.Image.{ImageState, start_byte}
 use Rattle.rv_hart.specs.Layout.{below}
 use Rattle.rv_hart.proofs.Pages.{below_length, below_at}
-use Rattle.og_core.specs.declared.directory.Entry.{Entry}
 use Rattle.og_core.specs.declared.directory.Entry.TheVariants.{Unowned}
-use Rattle.og_core.specs.declared.msg.Kind.{Kind}
-use Rattle.og_core.specs.Node.{NodeState, Setup}
-use Rattle.og_core.specs.Start.{start_node, home_lines, home_line_of, placed_line}
+use Rattle.og_core.specs.Node.{Setup}
+use Rattle.og_core.specs.Start.{home_lines, home_line_of, placed_line}
 use Rattle.og_core.specs.Machine.{start_world, new_seat}
-use Rattle.og_core.proofs.Sound.{NodeSound, SeatLow, Sound, Clocks, Holds, Sizes, Low, Free, held, held_by}
+use Rattle.og_core.proofs.Sound.{Sound}
+use Rattle.og_core.specs.Held.{held_by}
 use Rattle.og_core.proofs.Kept.{IsSetup}
 
 below_get : (n j : ℕ) → j < n → slice_get (below n) j ≡ Some j

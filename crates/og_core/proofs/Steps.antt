@@ -1,23 +1,21 @@
 -- Each event of a node keeps what holds of it.
-use Rattle.std.proofs.Common.{◌≡◌, ◌≢◌, ℕ, zero, suc, ◌+◌, ◌-◌, ◌*◌, ◌/◌, ◌%◌, ◌<◌, ◌≤◌, Bool, true, false, cond, nat_eq, List, [], ◌∷◌, ◌++◌, length, get_or, Option, Some, None, ◌⊎◌, inl, inr, arith, refl, sym, subst, ap, ◌∙◌}
+use Rattle.std.proofs.Common.{◌≡◌, ◌≢◌, ℕ, ◌+◌, ◌*◌, ◌/◌, ◌%◌, ◌<◌, ◌≤◌, Bool, true, false, cond, nat_eq, List, length, get_or, Option, Some, None, ◌⊎◌, inl, inr, arith, refl, sym, subst, ap, ◌∙◌}
 use Rattle.std.proofs.lemmas.List.{length-set}
 use Rattle.std.specs.Prelude.{slice_get, slice_set}
 use Rattle.std.specs.List.Sorted.{IsStrictlyIncreasing}
 use Rattle.std.proofs.lemmas.Bool.Decides.{nat_tests}
 use Rattle.std.proofs.lemmas.Bool.{cases_Bool}
-use Rattle.std.proofs.lemmas.Grind.{common_steps}
-use Rattle.std.proofs.lemmas.Option.{gets}
 use Rattle.og_base.specs.declared.Block.{Block}
 use Rattle.og_line.specs.declared.Line.{Line}
 use Rattle.og_line.specs.declared.Access.{Access}
 use Rattle.og_line.specs.declared.Access.TheVariants.{Load, Store, Reserve, Conditional, Atomic}
 use Rattle.og_line.specs.declared.Reservation.{Reservation}
 use Rattle.og_line.specs.Line.{store_of}
-use Rattle.og_line.specs.Access.{addr_of, answer_of, line_after, reservation_after, is_reserved}
-use Rattle.og_flat.specs.Flat.{Flat, flat_answer, flat_next, block_of, with_value}
-use Rattle.rv_hart.specs.Image.{ImageState}
-use Rattle.og_core.specs.Node.{NodeState, Setup, completed, block_at, block_number, home_number}
-use Rattle.og_core.proofs.Sound.{Sizes, Holds, Low, Free, held, held_by}
+use Rattle.og_line.specs.Access.{addr_of, line_after, reservation_after, is_reserved}
+use Rattle.og_flat.specs.Flat.{Flat, flat_next, block_of, with_value}
+use Rattle.og_core.specs.Node.{NodeState, Setup, completed, block_number, home_number}
+use Rattle.og_core.proofs.Sound.{Sizes, Holds, Low, Free}
+use Rattle.og_core.specs.Held.{held, held_by}
 use Rattle.og_core.proofs.Blocks.{Place, get_put, numbers, flat_number, other_number, one_page}
 
 -- an access adds at most one store

@@ -1,8 +1,7 @@
 -- Each step of the machine of one node keeps what holds of it.
-use Rattle.std.proofs.Common.{◌≡◌, ◌≢◌, ℕ, zero, suc, ◌+◌, ◌-◌, ◌*◌, ◌<◌, ◌≤◌, Bool, true, false, cond, nat_eq, List, [], ◌∷◌, ◌++◌, length, get_or, Option, Some, None, ◌⊎◌, inl, inr, arith, refl, sym, subst, ap, ◌∙◌, max}
+use Rattle.std.proofs.Common.{◌≡◌, ℕ, zero, suc, ◌+◌, ◌≤◌, Bool, true, false, cond, nat_eq, List, [], ◌∷◌, ◌++◌, length, Option, Some, None, arith, refl, sym, subst, ap, max}
 use Rattle.std.specs.Prelude.{slice_get, slice_set}
 use Rattle.std.proofs.lemmas.Bool.Decides.{nat_tests}
-use Rattle.std.proofs.lemmas.Bool.{cases_Bool}
 use Rattle.og_flat.specs.Flat.{Flat}
 use Rattle.og_runs.specs.declared.Choice.{Choice}
 use Rattle.og_runs.specs.declared.Choice.TheVariants.{Act, Take}
@@ -17,8 +16,8 @@ use Rattle.og_base.specs.declared.Block.{Block}
 use Rattle.og_core.specs.declared.msg.Kind.{Kind}
 use Rattle.og_core.specs.declared.msg.Note.{Note}
 use Rattle.og_core.specs.Node.{NodeState, Setup, rules, act_of, take_of}
-use Rattle.og_core.proofs.Sound.{NodeSound, SeatLow, Sound, Clocks, Going, Waits}
-use Rattle.og_core.proofs.Kept.{IsSetup, Kept, flat_after, Answers, act_kept, act_moves, take_kept, take_there}
+use Rattle.og_core.proofs.Sound.{NodeSound, SeatLow, Sound, Clocks, Going}
+use Rattle.og_core.proofs.Kept.{IsSetup, Kept, flat_after, Answers, act_kept, act_moves, take_kept}
 use Rattle.og_core.specs.HartRuns.{HartMove}
 use Rattle.rv_hart.specs.Hart.{HartState}
 

@@ -1,9 +1,7 @@
 -- A flat run: what harts do when their accesses are made one at a time on one flat memory, in the order of a list. It
 -- knows nothing of caches, messages, frames or moves.
-use Rattle.std.specs.Prelude.{◌≡◌, ℕ, zero, suc, ◌+◌, Bool, true, false, nat_eq, List, [], ◌∷◌, cond}
+use Rattle.std.specs.Prelude.{◌≡◌, ℕ, zero, suc, Bool, true, false, nat_eq, List, [], ◌∷◌, cond}
 use Rattle.std.proofs.Common.{Option, None, Some}
-use Rattle.og_base.specs.declared.Cause.{Cause}
-use Rattle.og_line.specs.declared.Access.{Access}
 use Rattle.og_flat.specs.Flat.{Flat, flat_answer, flat_next, flat_start}
 use Rattle.og_runs.specs.declared.Event.{Event}
 use Rattle.rv_hart.specs.declared.hart.Need.{Need}

@@ -4,3 +4,5 @@ pub mod Machine
 pub mod FlatRun
 pub mod HartRuns
 pub mod Simulation
+pub mod Held
+pub mod Laws

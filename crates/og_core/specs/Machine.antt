@@ -1,6 +1,6 @@
 -- The machine of all nodes: what contracts see of it, its start, which choices are enabled, and where it is quiet.
-use Rattle.std.specs.Prelude.{◌≡◌, ℕ, zero, suc, ◌+◌, ◌*◌, ◌≤◌, ◌<◌, ◌^◌, ◌⊎◌, Bool, true, false, ◌&&◌, nat_eq, nat_lt, List, [], ◌∷◌, ◌++◌, length, slice_get, map, cond, Result, Ok, Err}
-use Rattle.std.specs.List.{list_all, filter}
+use Rattle.std.specs.Prelude.{◌≡◌, ℕ, ◌≤◌, ◌<◌, ◌^◌, Bool, ◌&&◌, nat_eq, List, [], ◌++◌, length, slice_get, map, cond, Result, Ok, Err}
+use Rattle.std.specs.List.{list_all}
 use Rattle.std.specs.Option.{is_some}
 use Rattle.std.proofs.Common.{Option, None, Some}
 use Rattle.og_base.specs.declared.NotEnabled.{NotEnabled}
@@ -11,9 +11,8 @@ use Rattle.og_runs.specs.declared.MsgId.{MsgId}
 use Rattle.og_runs.specs.declared.Msg.{Msg}
 use Rattle.og_runs.specs.declared.Event.{Event}
 use Rattle.og_runs.specs.declared.Seat.{Seat}
-use Rattle.og_runs.specs.Runs.{Rules, Outcome, posted, clock_after, event_of}
-use Rattle.og_runs.specs.World.{World, WorldRun, world_step, find, seat_after, flight_after}
-use Rattle.og_line.specs.declared.Line.{Line}
+use Rattle.og_runs.specs.Runs.{Outcome, posted, clock_after, event_of}
+use Rattle.og_runs.specs.World.{World, WorldRun, find, seat_after, flight_after}
 use Rattle.rv_hart.specs.Image.{ImageState, IsLoadable}
 use Rattle.rv_hart.specs.Layout.{LayoutState, layout_of, pages_of, below}
 use Rattle.og_core.specs.declared.msg.Kind.{Kind}

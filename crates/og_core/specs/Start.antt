@@ -1,5 +1,5 @@
 -- What a node is at the start.
-use Rattle.std.specs.Prelude.{◌≡◌, ℕ, zero, suc, ◌+◌, ◌*◌, ◌/◌, ◌%◌, List, [], map, slice_get, replicate}
+use Rattle.std.specs.Prelude.{ℕ, ◌+◌, ◌*◌, ◌/◌, ◌%◌, List, map, slice_get, replicate}
 use Rattle.std.proofs.Common.{Option, None, Some}
 use Rattle.og_line.specs.declared.Line.{Line}
 use Rattle.og_line.specs.Line.{zero_line}
@@ -7,7 +7,6 @@ use Rattle.og_flat.specs.Flat.{start_line}
 use Rattle.rv_hart.specs.Hart.{start_of}
 use Rattle.rv_hart.specs.Image.{ImageState, start_byte, stack_page}
 use Rattle.rv_hart.specs.Layout.{LayoutState, below}
-use Rattle.og_core.specs.declared.directory.Entry.{Entry}
 use Rattle.og_core.specs.declared.directory.Entry.TheVariants.{Unowned}
 use Rattle.og_core.specs.Node.{NodeState, Setup}
 

@@ -1,12 +1,10 @@
-use Rattle.std.proofs.Common.{◌≡◌, ◌<◌, ◌^◌, List, ℕ, length, Some, Ok, arith, ap, sym, subst, ◌∙◌, Option, Result}
+use Rattle.std.proofs.Common.{◌≡◌, ℕ, Some, Ok, arith, ap, sym, subst, ◌∙◌, Option, Result}
 use Rattle.std.specs.Prelude.{slice_get, slice_set}
 use Rattle.og_base.specs.declared.NotEnabled.{NotEnabled}
 use Rattle.og_runs.specs.declared.Choice.TheVariants.{Act}
 use Rattle.og_runs.specs.World.{world_step}
-use Rattle.og_runs.specs.declared.Msg.{Msg}
 use Rattle.og_runs.specs.declared.Seat.{Seat}
-use Rattle.og_core.specs.declared.msg.Kind.{Kind}
-use Rattle.og_core.specs.Node.{NodeState, can_act_of, IsYoung, rules}
+use Rattle.og_core.specs.Node.{NodeState, can_act_of, rules}
 use Rattle.og_core.specs.Machine.{MachineState, setup_in, act_refusal, refusal_by}
 use Rattle.og_core.proofs.Machines.{seat_there, act_ready, act_step}
 use Rattle.og_core.proofs.machine.Machine.act.Goals as goal

@@ -1,4 +1,4 @@
-use Rattle.std.proofs.Common.{◌≡◌, ◌+◌, ◌≤◌, List, length, arith, ap, Fits}
+use Rattle.std.proofs.Common.{◌≡◌, ◌+◌, ◌≤◌, List, length, arith, ap}
 use Rattle.og_runs.specs.declared.Msg.{Msg}
 use Rattle.og_core.specs.declared.msg.Kind.{Kind}
 use Rattle.og_core.specs.Machine.{MachineState}

@@ -1,9 +1,9 @@
-use Rattle.std.proofs.Common.{◌≡◌, ◌≢◌, ◌<◌, ◌^◌, List, ℕ, length, Some, None, Ok, arith, ap, sym, subst, refl, ◌∙◌, Option, cond, nat_eq, true}
+use Rattle.std.proofs.Common.{◌≡◌, List, ℕ, Some, None, arith, ap, sym, subst, refl, ◌∙◌, Option, cond, nat_eq, true}
 use Rattle.std.proofs.lemmas.Bool.Decides.{nat_tests}
 use Rattle.og_base.specs.declared.NotEnabled.TheVariants.{NoMessage}
 use Rattle.std.specs.Prelude.{slice_get, slice_set}
 use Rattle.og_runs.specs.declared.Choice.TheVariants.{Take}
-use Rattle.og_runs.specs.World.{World, world_step, find}
+use Rattle.og_runs.specs.World.{world_step, find}
 use Rattle.og_runs.specs.declared.Msg.{Msg}
 use Rattle.og_runs.specs.declared.Seat.{Seat}
 use Rattle.og_core.specs.declared.msg.Kind.{Kind}
