@@ -204,3 +204,6 @@ fn refuse<E: Sink>(fault: WordsFault, err: &mut E) -> Exit
     tell(&exit, "", err);
     exit
 }
+
+#[cfg(test)]
+mod tests;

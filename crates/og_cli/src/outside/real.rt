@@ -2,7 +2,7 @@
 //! for what is read and shown: they tell no files and no bytes.
 
 ghost use Rattle.std.specs.Prelude.{◌≡◌, ◌≢◌, ℕ, ◌+◌, ◌<◌, ◌≤◌, List, [], ◌++◌, length, Option, None, Ok, Err, OnErr, IfOk, IsTrue, vec_len};
-ghost use Rattle.std.specs.Io.KnownBytes.{Consumes, IsAtEnd};
+ghost use Rattle.std.specs.Io.KnownBytes.{Consumes, IsAtEnd, WriteAppends};
 ghost use Rattle.og_cli.specs.Outside.{Files as FilesByName, HasFile, HasLongFile, AddsName, AddsAtMost, appended, Rises, texts};
 
 use super::{PIECE_BYTES, Shelf, ShelfFault, Sink, SinkFault, name_fault};
@@ -125,7 +125,8 @@ impl<W: Write + Drop> StreamSink<W> {
 
 // Writes some first bytes of the piece, again where the system was interrupted.
 fn write_some<W: Write>(writer: &mut W, piece: &[u8]) -> io::Result<usize>
-    ensures { IfOk result (λ n. n ≤ length piece.now) }
+    ensures taken { IfOk result (λ n. n ≤ length piece.now) }
+    ensures appends { WriteAppends (W.contents writer.old) (W.contents writer.new) result piece.now }
 {
     for _ in 0..u64::MAX {
         match writer.write(piece) {
@@ -133,7 +134,7 @@ fn write_some<W: Write>(writer: &mut W, piece: &[u8]) -> io::Result<usize>
             answer => return answer,
         }
     }
-    Ok(0)
+    Err(io::Error::from(ErrorKind::Interrupted))
 }
 
 impl<W: Write + Drop> Sink for StreamSink<W> {
