@@ -1,5 +1,5 @@
 -- A simulation, event by event.
-use Rattle.std.proofs.Common.{◌≡◌, ◌≢◌, ℕ, zero, suc, ◌+◌, ◌-◌, ◌<◌, ◌≤◌, ◌^◌, Bool, true, false, List, [], ◌∷◌, ◌++◌, length, Option, Some, None, arith, refl, sym, subst, ap, ◌∙◌, length-append, append_assoc, get_or, ◌&&◌, nat_eq}
+use Rattle.std.proofs.Common.{◌≡◌, ◌≢◌, ℕ, zero, suc, ◌+◌, ◌-◌, ◌*◌, ◌<◌, ◌≤◌, ◌^◌, Bool, true, false, List, [], ◌∷◌, ◌++◌, length, Option, Some, None, arith, refl, sym, subst, ap, ◌∙◌, length-append, append_assoc, get_or, ◌&&◌, nat_eq}
 use Rattle.std.proofs.lemmas.List.{append-nil, map-append}
 use Rattle.og_runs.specs.declared.Choice.{Choice}
 use Rattle.og_runs.specs.declared.Event.{Event}
@@ -30,7 +30,13 @@ use Rattle.std.specs.List.{list_all}
 use Rattle.std.specs.List.Sorted.{IsPermutation}
 use Rattle.std.proofs.lemmas.List.Sorted.{length_permutation}
 use Rattle.og_core.proofs.Reached.{made_sound}
-use Rattle.og_cli.specs.Simulate.{IsAdvanced, IsSimulated}
+use Rattle.og_core.specs.Held.{held}
+use Rattle.og_core.specs.HartRuns.{flat_end}
+use Rattle.og_core.proofs.Sound.{Sound}
+use Rattle.og_core.proofs.Reached.{seat_zero}
+use Rattle.og_flat.specs.Flat.{Flat, flat_start}
+use Rattle.rv_hart.specs.Image.{start_byte}
+use Rattle.og_cli.specs.Simulate.{IsAdvanced, IsSimulated, CopiesAreFlat}
 
 -- where nothing is next, a simulation ends
 pub drawn_none : (setup : Setup) (n : ℕ) (w : World NodeState Kind) → next_choice w ≡ None → drawn setup n w ≡ (w, [])
@@ -140,6 +146,21 @@ going_end image m n most i es all g =
 same_length : {X : Type 0} (xs ys : List X) → IsPermutation xs ys → length xs ≡ length ys
 same_length xs ys p = sym (length_permutation xs ys p)
 
+-- after a run from the start, the copies are flat memory's
+copies_flat : (image : ImageState) (m : MachineState) (es : List (Event Note)) (w : World NodeState Kind) → MadeBy image m [] [] → WorldRun (rules (setup_in image m)) m.world (choices es) w es → CopiesAreFlat image m es w
+copies_flat image m es w start run =
+    let setup : Setup = setup_in image m in
+    let from : WorldRun (rules setup) (start_world setup m.instructions) (choices es) w es = subst (λ (u : World NodeState Kind). WorldRun (rules setup) u (choices es) w es) (sym start.run.0) run in
+    let made : MadeBy image (record m { world = w }) (choices es) es = record { fits = record { loads = start.fits.loads; one_node = start.fits.one_node; placed = start.fits.placed; room = start.fits.room }; run = from } in
+    let flat : Flat = flat_end (flat_start (start_byte image)) es in
+    let s : Sound setup (length es) flat w = (made_sound image (record m { world = w }) (choices es) es made).0 in
+    record {
+      one_node = rw s.one refl;
+      lines = λ seat i k there inside small.
+          let same : seat ≡ s.seat = (seat_zero setup (length es) flat w 0 seat s there).1 in
+          subst (λ (x : Seat NodeState). held x.local (i * 32 + k) ≡ flat.memory (get_or m.layout.pages i 0 * 32 + k)) (sym same) (s.node.holds.line i k inside small);
+    }
+
 -- sorted by stamp, the events are a simulation's
 pub simulated : (image : ImageState) (m n : MachineState) (most : ℕ) (es fs : List (Event Note)) → MadeBy image m [] [] → IsAdvanced image m n most es → IsPermutation es fs → IsSorted es fs → IsSimulated image m most fs (is_quiet n.world)
 simulated image m n most es fs start a same sort =
@@ -162,4 +183,5 @@ simulated image m n most es fs start a same sort =
       full = λ no. count ∙ a.full no;
       few = let h : length es ≤ most = a.few in omega arith;
       flat = (made_sound image (record m { world = r.0 }) (choices fs) fs made).1;
+      copies = λ before after w is run. copies_flat image m before w start run;
     }

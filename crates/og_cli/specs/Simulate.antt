@@ -1,15 +1,20 @@
 -- What a simulation is: its events are those of the choices that it draws, in the order of their stamps.
-use Rattle.std.specs.Prelude.{◌≡◌, ℕ, ◌<◌, ◌≤◌, Bool, false, List, length}
+use Rattle.std.specs.Prelude.{◌≡◌, ℕ, ◌+◌, ◌*◌, ◌<◌, ◌≤◌, Bool, false, List, ◌++◌, length, slice_get}
+use Rattle.std.proofs.Common.{Some, get_or}
+use Rattle.og_flat.specs.Flat.{flat_start}
 use Rattle.og_runs.specs.declared.Event.{Event}
+use Rattle.og_runs.specs.declared.Seat.{Seat}
 use Rattle.og_runs.specs.Runs.{choices, IsSorted, Strict}
 use Rattle.og_runs.specs.World.{World, WorldRun}
-use Rattle.rv_hart.specs.Image.{ImageState}
+use Rattle.rv_hart.specs.Image.{ImageState, start_byte}
 use Rattle.og_core.specs.declared.msg.Kind.{Kind}
 use Rattle.og_core.specs.declared.msg.Note.{Note}
 use Rattle.og_core.specs.Node.{NodeState, rules}
 use Rattle.og_core.specs.Machine.{MachineState, setup_in, is_quiet}
 use Rattle.og_core.specs.Simulation.{drawn}
 use Rattle.og_core.specs.FlatRun.{FlatRun, hart_notes}
+use Rattle.og_core.specs.HartRuns.{flat_end}
+use Rattle.og_core.specs.Held.{held}
 
 -- what so many events at most have made of the machine m, which was at its start: the events are a run to n, and just
 -- those that the simulation draws
@@ -19,6 +24,14 @@ pub record IsAdvanced (image : ImageState) (m n : MachineState) (most : ℕ) (ev
   pub is_drawn : drawn (setup_in image m) most m.world ≡ (n.world, events)
   pub few : length events ≤ most
   pub full : is_quiet n.world ≡ false → length events ≡ most
+
+-- a state of the machine m after these events: there is one node, so no other has a copy of what it may write; and the
+-- line that it holds for block k of the i-th page that is placed is the flat memory's, bytes and number of stores, after
+-- the accesses of the events
+pub record CopiesAreFlat (image : ImageState) (m : MachineState) (events : List (Event Note)) (w : World NodeState Kind) : Type 0 where
+  pub one_node : length w.seats ≡ 1
+  pub lines : (seat : Seat NodeState) (i k : ℕ) → slice_get w.seats 0 ≡ Some seat → i < length m.layout.pages → k < 32
+      → held seat.local (i * 32 + k) ≡ (flat_end (flat_start (start_byte image)) events).memory (get_or m.layout.pages i 0 * 32 + k)
 
 -- from the machine m, which is at its start, a simulation of at most so many events has these events in the order of
 -- their stamps, and ends quiet or not
@@ -38,3 +51,6 @@ pub record IsSimulated (image : ImageState) (m : MachineState) (most : ℕ) (eve
   pub few : length events ≤ most
   -- what the harts did is a flat run
   pub flat : FlatRun image m.instructions (hart_notes events)
+  -- in each state of the run, the copies are flat memory's after the events so far
+  pub copies : (before after : List (Event Note)) (w : World NodeState Kind) → events ≡ before ++ after
+      → WorldRun (rules (setup_in image m)) m.world (choices before) w before → CopiesAreFlat image m before w
