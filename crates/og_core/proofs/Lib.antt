@@ -1,4 +1,3 @@
-pub mod Begin
 pub mod Sound
 pub mod Blocks
 pub mod Steps

@@ -6,13 +6,12 @@ ghost use Rattle.rv_hart.specs.Hart.{need_of};
 ghost use Rattle.og_line.specs.Access.{IsAligned, addr_of};
 ghost use Rattle.og_core.specs.Node.{NodeState, setup_of, act_of, take_of, letters_of, IsYoung, can_act_of, block_at, block_number, home_number, stop_note, completed, access_note, by_block, by_copy, by_entry, by_fill, IsLow};
 ghost use Rattle.og_core.specs.Start.{start_node, home_lines, home_line_of};
-ghost use Rattle.og_flat.specs.Flat.{start_line};
-ghost use Rattle.rv_hart.specs.Image.{start_byte};
 ghost use Rattle.std.specs.Prelude.{IfOk};
 
 use crate::directory::Entry;
 use crate::msg::{Kind, Letter, Msg, Note};
 use og_base::{Block, Cause, NoMemory, NodeId, NotEnabled, Settings, VPage};
+use og_flat::machine::start_line;
 use og_line::{Access, Line, Reservation};
 use rv_hart::hart::{Hart, Need};
 use rv_hart::image::Image;
@@ -315,16 +314,4 @@ fn home_line(node: NodeId, image: &Image, layout: &Layout, j: usize) -> Line
         Some(page) => start_line(image, page.0 * BLOCKS as u64 + (j % BLOCKS) as u64),
         None => Line::zero(),
     }
-}
-
-/// A block's line at the start.
-fn start_line(image: &Image, block: u64) -> Line
-    requires { block < 2 ^ 56 }
-    ensures { result ≡ start_line (start_byte image.now) block }
-{
-    let mut line = Line::zero();
-    for i in 0..128usize {
-        line.bytes[i] = image.start_byte(block * 128 + i as u64);
-    }
-    line
 }

@@ -1,7 +1,0 @@
-use Rattle.std.proofs.Common.{arith}
-use Rattle.rv_hart.specs.Image.{start_byte}
-use Rattle.og_core.proofs.Begin.{line_is}
-use Rattle.og_core.proofs.node.start_line.Goals as goal
-
-pub returns : goal.returns
-returns c = line_is (start_byte c.args.image.now) c.args.block c.loop-i.line c.loop-i.invariant.size c.loop-i.invariant.none (λ k lt. c.loop-i.invariant.bytes k (omega arith))
