@@ -1,0 +1,92 @@
+//! The examples: each is run through the command, and what it prints compared with its stored text.
+//!
+//! Below stands the command, and nothing stands above. The program is given the names of examples and
+//! runs in the folder with their files: `NAME.hex`, the source with comments; `NAME.raw`, the image;
+//! `NAME.out`, the text. It writes a line for each, and ends with status 1 unless all are as stored.
+#![tactic(auto)]
+
+use og_cli::exit::Exit;
+use og_cli::outside::memory::MemorySink;
+use og_cli::outside::real::FileShelf;
+use og_cli::top::origin_alone;
+use std::alloc::Global;
+use std::process::ExitCode;
+use std::{env, fmt, fs, io};
+
+/// How an example compares with its files.
+#[derive(Clone, Copy, PartialEq, Eq)]
+enum Finding {
+    AsStored,
+    OtherBytes,
+    OtherEnd,
+    OtherText,
+}
+
+impl fmt::Display for Finding {
+    fn fmt<W: fmt::Write>(&self, f: &mut fmt::Formatter<W>) -> fmt::Result {
+        f.write_str(match self {
+            Finding::AsStored => "as stored",
+            Finding::OtherBytes => "its image isn't that of its source",
+            Finding::OtherEnd => "it doesn't end quiet",
+            Finding::OtherText => "it prints another text",
+        })
+    }
+}
+
+fn main(rt: HostRuntime) -> ExitCode {
+    match check_all(&rt) {
+        Ok(true) => ExitCode::SUCCESS,
+        _ => ExitCode::FAILURE,
+    }
+}
+
+/// Writes a line for each example, and says whether all are as stored.
+fn check_all(rt: &HostRuntime) -> io::Result<bool> {
+    let mut all = true;
+    for name in env::args(rt)?.skip(1) {
+        let finding = check(rt, name.as_str())?;
+        println!(rt; "{name}: {finding}")?;
+        all = all && finding == Finding::AsStored;
+    }
+    Ok(all)
+}
+
+/// Compares an example's image with its source, and its run with its text.
+fn check(rt: &HostRuntime, name: &str) -> io::Result<Finding> {
+    let alloc = rt.alloc();
+    let image = format!(in alloc; "{name}.raw")?;
+    let source = fs::read_to_string(rt, format!(in alloc; "{name}.hex")?.as_str())?;
+    if bytes_of(alloc, source.as_str())? != fs::read(rt, image.as_str())? {
+        return Ok(Finding::OtherBytes);
+    }
+    let mut out = MemorySink::make(alloc, 65_536, Vec::new(alloc));
+    if run(rt, image, &mut out)? != Exit::Quiet {
+        return Ok(Finding::OtherEnd);
+    }
+    let text = fs::read(rt, format!(in alloc; "{name}.out")?.as_str())?;
+    if out.held() != text.as_slice() {
+        return Ok(Finding::OtherText);
+    }
+    Ok(Finding::AsStored)
+}
+
+/// Runs an image.
+fn run(rt: &HostRuntime, image: String, out: &mut MemorySink) -> io::Result<Exit> {
+    let alloc = rt.alloc();
+    let command = String::from_str(alloc, "simulate")?;
+    let raw = String::from_str(alloc, "--raw")?;
+    let words = vec![in alloc; command, image, raw]?;
+    let mut shelf = FileShelf::make(rt, alloc);
+    let mut err = MemorySink::make(alloc, 65_536, Vec::new(alloc));
+    Ok(origin_alone(alloc, &words, &mut shelf, out, &mut err))
+}
+
+/// The bytes that a source writes: hexadecimal digits, with comments from `#` to the end of a line.
+fn bytes_of(alloc: Global, source: &str) -> io::Result<Vec<u8>> {
+    let mut digits = String::new(alloc);
+    for line in source.lines() {
+        let code = line.split('#').next().unwrap_or("");
+        digits.push_str(code.trim())?;
+    }
+    hex::decode(alloc, digits.as_str()).map_err(|_| io::Error::from(io::ErrorKind::InvalidData))
+}
