@@ -1,5 +1,5 @@
 -- How the command ends, and what is told of it.
-use Rattle.std.specs.Prelude.{◌≡◌, ℕ, ◌+◌, ◌*◌, ◌<◌, ◌≤◌, ◌⊎◌, Bool, true, false, nat_lt, nat_eq, ◌&&◌, List, [], ◌∷◌, ◌++◌, length, cond, codes, decimal, Option, None, Some}
+use Rattle.std.specs.Prelude.{◌≡◌, ℕ, ◌+◌, ◌*◌, ◌<◌, ◌≤◌, ◌⊎◌, Bool, true, false, nat_lt, nat_eq, ◌&&◌, List, [], ◌∷◌, ◌++◌, length, cond, codes, decimal, Option, None, Some, IfSome, IsSomeAnd}
 use Rattle.og_runs.specs.declared.Event.{Event}
 use Rattle.rv_hart.specs.Image.{ImageState}
 use Rattle.rv_hart.specs.Layout.{pages_of}
@@ -10,7 +10,7 @@ use Rattle.og_cli.specs.declared.exit.Exit.{Exit}
 use Rattle.og_cli.specs.declared.exit.Exit.TheVariants as exit
 use Rattle.og_cli.specs.declared.exit.ImageFault.{ImageFault}
 use Rattle.og_cli.specs.declared.exit.ImageFault.TheVariants as fault
-use Rattle.og_cli.specs.Outside.{Files, HasFile, HasLongFile, AddsName, AddsAtMost, appended, AppendsPrefix, Rises}
+use Rattle.og_cli.specs.Outside.{Files, file_of, HasFile, HasLongFile, AddsName, AddsAtMost, appended, AppendsPrefix, Rises, IsAsBefore}
 use Rattle.og_cli.specs.Text.{text_of}
 use Rattle.og_cli.specs.Simulate.{IsSimulated}
 use Rattle.og_cli.specs.declared.words.WordsFault.{WordsFault}
@@ -149,6 +149,21 @@ abbrev pub CommandEnds : Option JobState → ShelfChange → ShelfChange → Sin
 CommandEnds None shelf after old new exit.Memory = (new ≡ old) × (after ≡ shelf)
 CommandEnds None shelf after old new other = (other ≡ exit.Words) × (new ≡ old) × (after ≡ shelf)
 CommandEnds (Some job) shelf after old new other = JobEnds job shelf after old new other
+
+-- the shelf tells its files, and the one of the job's name is an image that is run
+abbrev pub HasImage : JobState → Option Files → Type 0
+HasImage job files = IsSomeAnd files (λ fs. IsSomeAnd (file_of fs job.name) (λ bytes. image_fault bytes job.nodes default_frames ≡ None))
+
+-- the job is built and its image is run, no name was added to the failed ones, and the sink didn't fail
+pub record IsUnhindered (job : JobState) (shelf after : ShelfChange) (old new : SinkChange) : Type 0 where
+  pub built : is_built job ≡ true
+  pub image : HasImage job shelf.files
+  pub read : after.failed ≡ shelf.failed
+  pub written : IsAsBefore old.faults new.faults
+
+-- a job that nothing hinders ends quiet, at its limit, or for want of memory
+abbrev pub EndsUnhindered : Option JobState → ShelfChange → ShelfChange → SinkChange → SinkChange → Exit → Type 0
+EndsUnhindered asked shelf after old new answer = IfSome asked (λ job. IsUnhindered job shelf after old new → (answer ≡ exit.Quiet) ⊎ (answer ≡ exit.Limit) ⊎ (answer ≡ exit.Memory))
 
 -- what the answer's line names: the file of the words
 abbrev pub name_of : Option JobState → List ℕ

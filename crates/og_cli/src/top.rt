@@ -6,7 +6,7 @@ ghost use Rattle.og_core.specs.Machine.{start_of};
 ghost use Rattle.og_cli.specs.Outside.{appended, AppendsPrefix, Rises, parts_text, texts};
 ghost use Rattle.og_cli.specs.Simulate.{IsSimulated};
 ghost use Rattle.og_cli.specs.Text.{text_of};
-ghost use Rattle.og_cli.specs.Exit.{fault_text, refused_of, default_frames, ShelfChange, is_built, JobEnds, CommandEnds, IsTold, name_of, PrintEnds, ended_of, RunSettings, SinkChange, RunEnds, IsRunText, image_of, image_fault, told_of};
+ghost use Rattle.og_cli.specs.Exit.{fault_text, refused_of, default_frames, ShelfChange, is_built, JobEnds, CommandEnds, EndsUnhindered, IsTold, name_of, PrintEnds, ended_of, RunSettings, SinkChange, RunEnds, IsRunText, image_of, image_fault, told_of};
 ghost use Rattle.og_cli.specs.Words.{job_seen, job_of};
 
 use crate::exit::{Exit, ImageFault};
@@ -181,6 +181,7 @@ pub fn origin_alone<F: Shelf, K: Sink, E: Sink>(
     err: &mut E,
 ) -> Exit
     ensures ends { CommandEnds (job_of (texts words.now)) (record { files = F.files shelf.old; failed = F.failed shelf.old }) (record { files = F.files shelf.new; failed = F.failed shelf.new }) (record { held = K.held out.old; faults = K.faults out.old; wants = K.wants out.old }) (record { held = K.held out.new; faults = K.faults out.new; wants = K.wants out.new }) result }
+    ensures unhindered { EndsUnhindered (job_of (texts words.now)) (record { files = F.files shelf.old; failed = F.failed shelf.old }) (record { files = F.files shelf.new; failed = F.failed shelf.new }) (record { held = K.held out.old; faults = K.faults out.old; wants = K.wants out.old }) (record { held = K.held out.new; faults = K.faults out.new; wants = K.wants out.new }) result }
     ensures told { IsTold (told_of (name_of (job_of (texts words.now))) result) (record { held = E.held err.old; faults = E.faults err.old; wants = E.wants err.old }) (record { held = E.held err.new; faults = E.faults err.new; wants = E.wants err.new }) }
 {
     let job = match read_words(alloc, words) {

@@ -1,5 +1,7 @@
 use super::*;
 use crate::outside::memory::{MemoryShelf, MemorySink};
+use crate::outside::real::StreamSink;
+use std::fs::{self, File};
 use std::test::Fail;
 
 // A program of seven instructions that stores a word, loads it and exits.
@@ -248,6 +250,52 @@ fn a_file_may_be_no_image(rt: HostRuntime) -> Result<(), Fail> {
     Ok(())
 }
 
+/// A file with more bytes than an image may have is refused before it is looked at.
+#[test]
+fn a_file_may_be_too_long(rt: HostRuntime) -> Result<(), Fail> {
+    let alloc = rt.alloc();
+    let words = words_of(alloc, "simulate store.raw --raw")?;
+    let long = vec![in alloc; 0u8; 67_108_865]?;
+    let mut shelf = MemoryShelf::make(alloc, Vec::new(alloc));
+    shelf.put(String::from_str(alloc, "store.raw")?, long)?;
+    let answer = answer_with(alloc, &words, shelf, whole_sink(alloc), whole_sink(alloc));
+    assert_eq!(rt; answer.status, 4);
+    assert_eq!(rt; answer.out.held(), b"".as_slice());
+    assert_eq!(rt; answer.err.held(), b"origin: image TooLong\n".as_slice());
+    Ok(())
+}
+
+// A program whose only instruction is a call that isn't known, with so many pages of data.
+fn program_with_pages(alloc: Global, pages: usize) -> Result<Vec<u8>, Fail> {
+    let mut bytes = b"\x04\x00\x00\x00\x73\x00\x00\x00".to_vec(alloc)?;
+    for _page in 0..pages {
+        bytes.extend_from_slice(&[0; 4096])?;
+    }
+    Ok(bytes)
+}
+
+/// A machine of 64 frames runs a program of 63 data pages and a stack page, and no larger one.
+#[test]
+fn a_program_may_need_more_frames(rt: HostRuntime) -> Result<(), Fail> {
+    let table: &[(usize, u8, &[u8], &[u8])] = &[
+        (
+            63,
+            0,
+            b"act 0\nat 1 0 trap call 0000000000010000\nquiet 1 0\n",
+            b"",
+        ),
+        (64, 4, b"", b"origin: image NoFrames need 65 have 64\n"),
+    ];
+    for (pages, status, out, err) in table {
+        let bytes = program_with_pages(rt.alloc(), *pages)?;
+        let answer = answer_to(rt.alloc(), "simulate store.raw --raw", &bytes)?;
+        assert_eq!(rt; answer.status, *status, "{pages}");
+        assert_eq!(rt; answer.out.held(), *out, "{pages}");
+        assert_eq!(rt; answer.err.held(), *err, "{pages}");
+    }
+    Ok(())
+}
+
 /// A sink that takes one byte in a call gets the same text.
 #[test]
 fn a_text_may_go_byte_by_byte(rt: HostRuntime) -> Result<(), Fail> {
@@ -275,6 +323,31 @@ fn a_sink_that_fails_holds_what_it_took(rt: HostRuntime) -> Result<(), Fail> {
             "{taken}"
         );
     }
+    Ok(())
+}
+
+/// Where standard output is closed, or its disk full, the text can't be written. The system answers a
+/// write to a closed stream as it answers one to a file that was opened only to be read.
+#[test]
+fn a_closed_or_full_output_takes_nothing(rt: HostRuntime) -> Result<(), Fail> {
+    let alloc = rt.alloc();
+    let words = words_of(alloc, "simulate store.raw --raw")?;
+    fs::write(&rt, "closed.out", b"before")?;
+    let closed = File::open(&rt, "closed.out")?;
+    let full = fs::create(&rt, "/dev/full")?;
+    for file in [closed, full] {
+        let mut shelf = shelf_with(alloc, STORE, Vec::new(alloc))?;
+        let mut out = StreamSink::make(file);
+        let mut err = whole_sink(alloc);
+        let exit = origin_alone(alloc, &words, &mut shelf, &mut out, &mut err);
+        assert_eq!(rt; exit.status(), 14);
+        assert_eq!(rt; err.held(), b"origin: cannot write\n".as_slice());
+    }
+    assert_eq!(rt;
+        fs::read(&rt, "closed.out")?.as_slice(),
+        b"before".as_slice()
+    );
+    fs::remove_file(&rt, "closed.out")?;
     Ok(())
 }
 
