@@ -1,22 +1,19 @@
 -- How a run from the bytes of a file ends.
-use Rattle.std.proofs.Common.{◌≡◌, ℕ, ◌+◌, ◌*◌, ◌<◌, ◌≤◌, Bool, true, false, cond, nat_lt, List, length, Option, Some, None, ◌⊎◌, inl, inr, arith, refl, subst, sym, ap}
+use Rattle.std.proofs.Common.{◌≡◌, ℕ, ◌*◌, ◌≤◌, Bool, true, false, nat_lt, List, length, Option, Some, None, inl, inr, arith, refl}
 use Rattle.std.proofs.lemmas.Bool.Decides.{nat_tests}
 use Rattle.og_runs.specs.declared.Event.{Event}
-use Rattle.rv_hart.specs.declared.image.Elf.{Elf}
-use Rattle.rv_hart.specs.Image.{ImageState}
 use Rattle.rv_hart.specs.Layout.{pages_of}
-use Rattle.rv_hart.specs.Raw.{is_out, raw_elf}
+use Rattle.rv_hart.specs.Raw.{is_out}
 use Rattle.og_core.specs.declared.msg.Note.{Note}
-use Rattle.og_core.specs.Machine.{MachineState, start_of}
+use Rattle.og_core.specs.Machine.{start_of}
 use Rattle.og_cli.specs.declared.exit.Exit.{Exit}
 use Rattle.og_cli.specs.declared.exit.Exit.TheVariants as exit
-use Rattle.og_cli.specs.declared.exit.ImageFault.{ImageFault}
 use Rattle.og_cli.specs.Text.{text_of}
 use Rattle.og_cli.specs.Simulate.{IsSimulated}
 use Rattle.og_cli.specs.declared.words.WordsFault.{WordsFault}
 use Rattle.og_cli.specs.declared.words.WordsFault.TheVariants as words
 use Rattle.og_cli.specs.Words.{JobState}
-use Rattle.og_cli.specs.Exit.{ShelfChange, CommandEnds, refused_of, RunSettings, SinkChange, RunEnds, IsRunText, PrintEnds, image_of, image_fault, frames_fault}
+use Rattle.og_cli.specs.Exit.{ShelfChange, CommandEnds, refused_of, RunSettings, SinkChange, RunEnds, IsRunText, PrintEnds, image_of, image_fault}
 
 -- an image with few bytes, that is a raw program, and for which there are frames has no fault
 pub no_fault : (bytes : List ℕ) (nodes frames : ℕ) → length bytes ≤ 67108864 → is_out bytes ≡ false → length (pages_of (image_of bytes nodes)) ≤ nodes * frames → image_fault bytes nodes frames ≡ None

@@ -1,6 +1,6 @@
 -- A simulation, event by event.
-use Rattle.std.proofs.Common.{◌≡◌, ◌≢◌, ℕ, zero, suc, ◌+◌, ◌-◌, ◌*◌, ◌<◌, ◌≤◌, ◌^◌, Bool, true, false, List, [], ◌∷◌, ◌++◌, length, Option, Some, None, arith, refl, sym, subst, ap, ◌∙◌, length-append, append_assoc, get_or, ◌&&◌, nat_eq}
-use Rattle.std.proofs.lemmas.List.{append-nil, map-append}
+use Rattle.std.proofs.Common.{◌≡◌, ℕ, zero, suc, ◌+◌, ◌-◌, ◌*◌, ◌<◌, ◌≤◌, true, List, [], ◌∷◌, ◌++◌, length, Option, Some, None, arith, refl, sym, subst, ap, ◌∙◌, length-append, append_assoc, get_or, ◌&&◌, nat_eq}
+use Rattle.std.proofs.lemmas.List.{append-nil}
 use Rattle.og_runs.specs.declared.Choice.{Choice}
 use Rattle.og_runs.specs.declared.Event.{Event}
 use Rattle.og_runs.specs.Runs.{choices, IsSorted}
@@ -23,7 +23,7 @@ use Rattle.rv_hart.specs.Image.{ImageState}
 use Rattle.og_core.specs.declared.msg.Kind.{Kind}
 use Rattle.og_core.specs.declared.msg.Note.{Note}
 use Rattle.og_core.specs.Node.{NodeState, Setup, rules}
-use Rattle.og_core.specs.Machine.{MachineState, MadeBy, IsMade, IsFor, setup_in, start_world, new_seat, is_quiet}
+use Rattle.og_core.specs.Machine.{MachineState, MadeBy, setup_in, start_world, new_seat, is_quiet}
 use Rattle.og_core.specs.Simulation.{drawn, next_choice, with_choice, with_event}
 use Rattle.og_core.proofs.Choices.{shape_of, none_quiet}
 use Rattle.std.specs.List.{list_all}

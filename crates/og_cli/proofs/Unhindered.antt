@@ -1,5 +1,5 @@
 -- A command that nothing hinders ends with its run, or for want of memory.
-use Rattle.std.proofs.Common.{nat_lt, ◌≡◌, ℕ, ◌+◌, ◌^◌, ◌-◌, ◌<◌, ◌≤◌, min, Bool, true, false, List, [], ◌∷◌, ◌++◌, length, Option, Some, None, ◌⊎◌, inl, inr, arith, refl, subst, sym, ap, length-append}
+use Rattle.std.proofs.Common.{nat_lt, ◌≡◌, ℕ, ◌+◌, ◌^◌, ◌-◌, ◌<◌, true, false, List, [], ◌∷◌, ◌++◌, length, Option, Some, None, inl, inr, arith, refl, ap, length-append}
 use Rattle.std.specs.Prelude.{IsSomeAnd}
 use Rattle.std.proofs.lemmas.Bool.Decides.{nat_tests}
 use Rattle.og_cli.specs.declared.exit.Exit.{Exit}
@@ -8,7 +8,7 @@ use Rattle.og_cli.specs.declared.exit.ImageFault.{ImageFault}
 use Rattle.og_cli.specs.declared.exit.ImageFault.TheVariants as fault
 use Rattle.og_cli.specs.Outside.{Files, file_of, HasFile, HasLongFile, AddsName, Rises, IsAsBefore}
 use Rattle.og_cli.specs.Words.{JobState}
-use Rattle.og_cli.specs.Exit.{ShelfChange, SinkChange, CommandEnds, EndsUnhindered, HasImage, IsUnhindered, is_built, image_fault, default_frames}
+use Rattle.og_cli.specs.Exit.{ShelfChange, SinkChange, CommandEnds, EndsUnhindered, HasImage, is_built, image_fault, default_frames}
 
 -- a count that rose isn't as before
 no_rise : {A : Type 0} → (old new : ℕ) → IsAsBefore old new → Rises old new → A

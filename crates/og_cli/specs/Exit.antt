@@ -1,5 +1,5 @@
 -- How the command ends, and what is told of it.
-use Rattle.std.specs.Prelude.{◌≡◌, ℕ, ◌+◌, ◌*◌, ◌<◌, ◌≤◌, ◌⊎◌, Bool, true, false, nat_lt, nat_eq, ◌&&◌, List, [], ◌∷◌, ◌++◌, length, cond, codes, decimal, Option, None, Some, IfSome, IsSomeAnd}
+use Rattle.std.specs.Prelude.{◌≡◌, ℕ, ◌*◌, ◌⊎◌, Bool, true, false, nat_lt, nat_eq, ◌&&◌, List, [], ◌∷◌, ◌++◌, length, cond, codes, decimal, Option, None, Some, IfSome, IsSomeAnd}
 use Rattle.og_runs.specs.declared.Event.{Event}
 use Rattle.rv_hart.specs.Image.{ImageState}
 use Rattle.rv_hart.specs.Layout.{pages_of}
@@ -10,7 +10,7 @@ use Rattle.og_cli.specs.declared.exit.Exit.{Exit}
 use Rattle.og_cli.specs.declared.exit.Exit.TheVariants as exit
 use Rattle.og_cli.specs.declared.exit.ImageFault.{ImageFault}
 use Rattle.og_cli.specs.declared.exit.ImageFault.TheVariants as fault
-use Rattle.og_cli.specs.Outside.{Files, file_of, HasFile, HasLongFile, AddsName, AddsAtMost, appended, AppendsPrefix, Rises, IsAsBefore}
+use Rattle.og_cli.specs.Outside.{Files, file_of, HasFile, HasLongFile, AddsName, appended, AppendsPrefix, Rises, IsAsBefore}
 use Rattle.og_cli.specs.Text.{text_of}
 use Rattle.og_cli.specs.Simulate.{IsSimulated}
 use Rattle.og_cli.specs.declared.words.WordsFault.{WordsFault}
@@ -89,14 +89,14 @@ abbrev pub Cut : List ℕ → RunSettings → SinkChange → SinkChange → Type
 Cut bytes s old new = (text : List ℕ) × (quiet : Bool) × IsRunText bytes s text quiet × AppendsPrefix text old.held new.held
 
 -- how a run from these bytes ends: quiet or at its limit, with the whole text; with a fault of the sink, whose count
--- rose; with a fault of the image, and nothing written; for want of memory, with nothing written unless the sink's
--- count of wants rose
+-- rose; with a fault of the image, the sink as before; for want of memory, the sink as before unless its count of wants
+-- rose
 abbrev pub RunEnds : List ℕ → RunSettings → SinkChange → SinkChange → Exit → Type 0
 RunEnds bytes s old new exit.Quiet = Printed bytes s old new true
 RunEnds bytes s old new exit.Limit = Printed bytes s old new false
 RunEnds bytes s old new exit.SinkFault = Cut bytes s old new × Rises old.faults new.faults
-RunEnds bytes s old new (exit.Image f) = (image_fault bytes s.nodes s.frames ≡ Some f) × (new.held ≡ old.held)
-RunEnds bytes s old new exit.Memory = (new.held ≡ old.held) ⊎ (Cut bytes s old new × Rises old.wants new.wants)
+RunEnds bytes s old new (exit.Image f) = (image_fault bytes s.nodes s.frames ≡ Some f) × (new ≡ old)
+RunEnds bytes s old new exit.Memory = (new ≡ old) ⊎ (Cut bytes s old new × Rises old.wants new.wants)
 RunEnds bytes s old new other = ⊥
 
 -- ------------------------------------------------------------ printing
@@ -109,7 +109,7 @@ ended_of false = exit.Limit
 -- how the printing of these events ends
 abbrev pub PrintEnds : List (Event Note) → Bool → SinkChange → SinkChange → Exit → Type 0
 PrintEnds es quiet old new exit.SinkFault = AppendsPrefix (text_of es quiet) old.held new.held × Rises old.faults new.faults
-PrintEnds es quiet old new exit.Memory = (new.held ≡ old.held) ⊎ (AppendsPrefix (text_of es quiet) old.held new.held × Rises old.wants new.wants)
+PrintEnds es quiet old new exit.Memory = (new ≡ old) ⊎ (AppendsPrefix (text_of es quiet) old.held new.held × Rises old.wants new.wants)
 PrintEnds es quiet old new other = (other ≡ ended_of quiet) × (new.held ≡ appended old.held (text_of es quiet))
 
 -- ------------------------------------------------------------ the command

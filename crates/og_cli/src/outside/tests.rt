@@ -94,6 +94,7 @@ fn a_shelf_of_files_reads_whole_files(rt: HostRuntime) -> Result<(), Fail> {
         shelf.fetch(alloc, "long.bin", 150_000)?.as_slice(),
         long.as_slice()
     );
+    fs::remove_file(&rt, "long.bin")?;
     Ok(())
 }
 

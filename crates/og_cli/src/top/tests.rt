@@ -89,6 +89,13 @@ fn a_run_prints_its_text(rt: HostRuntime) -> Result<(), Fail> {
         ("simulate store.raw --raw --nodes 1", 0, TEXT),
         ("simulate store.raw --raw --events 0", 3, b"limit 0 0\n"),
         (
+            "simulate store.raw --raw --events 5",
+            3,
+            b"act 0\nact 0\nact 0\ntake 0 0 0\ntake 0 0 1\n\
+            at 5 0 store 0000000000100000 4 000000000000002a\nlimit 5 1\n",
+        ),
+        ("simulate store.raw --events 9 --raw", 0, TEXT),
+        (
             "simulate store.raw --instructions 0 --raw",
             0,
             b"act 0\nat 1 0 spent\nquiet 1 0\n",
@@ -103,7 +110,8 @@ fn a_run_prints_its_text(rt: HostRuntime) -> Result<(), Fail> {
     Ok(())
 }
 
-/// A run tells how its hart stopped: by a trap of each kind, or after two emits by its exit.
+/// A run tells how its hart stopped: by a trap of each kind, after an emit at the end of its text, or
+/// after two emits by its exit.
 #[test]
 fn a_run_tells_its_cause(rt: HostRuntime) -> Result<(), Fail> {
     let table: &[(&[u8], &[u8])] = &[
@@ -134,6 +142,10 @@ fn a_run_tells_its_cause(rt: HostRuntime) -> Result<(), Fail> {
         (
             b"\x04\x00\x00\x00\x73\x00\x10\x00",
             b"act 0\nat 1 0 trap break 0000000000010000\nquiet 1 0\n",
+        ),
+        (
+            b"\x0c\x00\x00\x00\x93\x08\x10\x00\x13\x05\x70\x00\x73\x00\x00\x00",
+            b"act 0\nact 0\nact 0\nat 3 0 emit 0000000000000007\nact 0\nat 4 0 trap fetch 000000000001000c\nquiet 4 0\n",
         ),
         (
             b"\x20\x00\x00\x00\x93\x08\x10\x00\x13\x05\x70\x00\x73\x00\x00\x00\

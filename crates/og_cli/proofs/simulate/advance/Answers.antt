@@ -1,8 +1,8 @@
-use Rattle.std.proofs.Common.{◌≡◌, ◌<◌, ◌^◌, length, arith, sym, subst, ◌∙◌}
+use Rattle.std.proofs.Common.{◌≡◌, ◌<◌, ◌^◌, length, arith, sym, ◌∙◌}
 use Rattle.og_runs.specs.Runs.{choices}
 use Rattle.og_core.specs.Machine.{MadeBy}
 use Rattle.og_core.proofs.Reached.{young_made}
-use Rattle.og_cli.proofs.Simulations.{Going, going_start, going_made, going_next, going_stop, going_end}
+use Rattle.og_cli.proofs.Simulations.{going_start, going_made, going_next, going_stop, going_end}
 use Rattle.og_cli.proofs.simulate.advance.Goals as goal
 
 pub loop-made-init : goal.loop-made-init

@@ -1,7 +1,5 @@
-use Rattle.std.proofs.Common.{◌≡◌, subst, sym, Bool, List}
-use Rattle.og_runs.specs.declared.Event.{Event}
-use Rattle.og_core.specs.declared.msg.Note.{Note}
-use Rattle.og_cli.specs.Simulate.{IsSimulated, IsAdvanced}
+use Rattle.std.proofs.Common.{subst, sym, Bool}
+use Rattle.og_cli.specs.Simulate.{IsSimulated}
 use Rattle.og_cli.proofs.Simulations.{simulated}
 use Rattle.og_cli.proofs.simulate.simulate.Goals as goal
 

@@ -1,8 +1,6 @@
 use Rattle.std.proofs.Common.{◌≡◌, ℕ, List, Option, Some, Err, subst, sym, ap, ◌∙◌}
-use Rattle.std.specs.Prelude.{string_bytes}
 use Rattle.og_cli.specs.declared.exit.Exit.{Exit}
 use Rattle.og_cli.specs.declared.words.WordsFault.{WordsFault}
-use Rattle.og_cli.specs.declared.words.WordsFault.TheVariants as words
 use Rattle.og_cli.specs.Outside.{texts}
 use Rattle.og_cli.specs.Words.{JobState, job_of, job_seen}
 use Rattle.og_cli.specs.Exit.{IsTold, SinkChange, ShelfChange, CommandEnds, EndsUnhindered, told_of, name_of}

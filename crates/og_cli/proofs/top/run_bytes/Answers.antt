@@ -1,9 +1,8 @@
-use Rattle.std.proofs.Common.{◌≡◌, ◌≤◌, ◌*◌, ℕ, length, Option, None, ap, subst, ◌∙◌}
+use Rattle.std.proofs.Common.{◌≡◌, ◌≤◌, ◌*◌, ℕ, length, None, ap, subst, ◌∙◌}
 use Rattle.rv_hart.specs.declared.image.Elf.{Elf}
 use Rattle.rv_hart.specs.Image.{ImageState}
 use Rattle.rv_hart.specs.Layout.{pages_of}
 use Rattle.og_core.specs.Machine.{MachineState, start_of}
-use Rattle.og_cli.specs.declared.exit.ImageFault.{ImageFault}
 use Rattle.og_cli.specs.Simulate.{IsSimulated}
 use Rattle.og_cli.specs.Exit.{image_of, image_fault}
 use Rattle.og_cli.proofs.Runs.{no_fault, run_ends}

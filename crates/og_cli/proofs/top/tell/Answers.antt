@@ -1,4 +1,3 @@
-use Rattle.std.proofs.Common.{◌≡◌}
 use Rattle.og_cli.proofs.top.tell.Goals as goal
 
 pub returns-in-ShelfFault : goal.returns-in-ShelfFault

@@ -1,4 +1,3 @@
-use Rattle.std.proofs.Common.{◌≡◌, ◌∙◌}
 use Rattle.og_cli.proofs.top.tell_fault.Goals as goal
 
 pub returns-in-NoFrames : goal.returns-in-NoFrames
