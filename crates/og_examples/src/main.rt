@@ -14,22 +14,24 @@ use std::process::ExitCode;
 use std::{env, fmt, fs, io};
 
 /// How an example compares with its files.
-#[derive(Clone, Copy, PartialEq, Eq)]
+#[derive(Drop)]
 enum Finding {
     AsStored,
     OtherBytes,
     OtherEnd,
     OtherText,
+    Unread(io::Error),
 }
 
 impl fmt::Display for Finding {
     fn fmt<W: fmt::Write>(&self, f: &mut fmt::Formatter<W>) -> fmt::Result {
-        f.write_str(match self {
-            Finding::AsStored => "as stored",
-            Finding::OtherBytes => "its image isn't that of its source",
-            Finding::OtherEnd => "it doesn't end quiet",
-            Finding::OtherText => "it prints another text",
-        })
+        match self {
+            Finding::AsStored => f.write_str("as stored"),
+            Finding::OtherBytes => f.write_str("its image isn't that of its source"),
+            Finding::OtherEnd => f.write_str("it doesn't end quiet"),
+            Finding::OtherText => f.write_str("it prints another text"),
+            Finding::Unread(error) => write!(f, "{error}"),
+        }
     }
 }
 
@@ -44,9 +46,9 @@ fn main(rt: HostRuntime) -> ExitCode {
 fn check_all(rt: &HostRuntime) -> io::Result<bool> {
     let mut all = true;
     for name in env::args(rt)?.skip(1) {
-        let finding = check(rt, name.as_str())?;
+        let finding = check(rt, name.as_str()).unwrap_or_else(|error| Finding::Unread(error));
         println!(rt; "{name}: {finding}")?;
-        all = all && finding == Finding::AsStored;
+        all = all && matches!(&finding, Finding::AsStored);
     }
     Ok(all)
 }
