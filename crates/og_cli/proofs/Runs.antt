@@ -13,7 +13,8 @@ use Rattle.og_cli.specs.Simulate.{IsSimulated}
 use Rattle.og_cli.specs.declared.words.WordsFault.{WordsFault}
 use Rattle.og_cli.specs.declared.words.WordsFault.TheVariants as words
 use Rattle.og_cli.specs.Words.{JobState}
-use Rattle.og_cli.specs.Exit.{ShelfChange, CommandEnds, refused_of, RunSettings, SinkChange, RunEnds, IsRunText, PrintEnds, image_of, image_fault}
+use Rattle.og_cli.specs.Outside.{ShelfState, SinkState}
+use Rattle.og_cli.specs.Exit.{CommandEnds, refused_of, RunSettings, RunEnds, IsRunText, PrintEnds, image_of, image_fault}
 
 -- an image with few bytes, that is a raw program, and for which there are frames has no fault
 pub no_fault : (bytes : List ℕ) (nodes frames : ℕ) → length bytes ≤ 67108864 → is_out bytes ≡ false → length (pages_of (image_of bytes nodes)) ≤ nodes * frames → image_fault bytes nodes frames ≡ None
@@ -22,7 +23,7 @@ no_fault bytes nodes frames short sound room =
     let b : nat_lt (nodes * frames) (length (pages_of (image_of bytes nodes))) ≡ false = grind (arith, nat_tests) in
     rw (a, sound, b) refl
 
-module _ (bytes : List ℕ) (s : RunSettings) (es : List (Event Note)) (old new : SinkChange)
+module _ (bytes : List ℕ) (s : RunSettings) (es : List (Event Note)) (old new : SinkState)
     (fine : image_fault bytes s.nodes s.frames ≡ None) where
   text_is : (q : Bool) → IsSimulated (image_of bytes s.nodes) (start_of (image_of bytes s.nodes) s.frames s.instructions) s.events es q → IsRunText bytes s (text_of es q) q
   text_is q run = record { accepted = fine; events = es; run = run; text_is = refl }
@@ -46,7 +47,7 @@ module _ (bytes : List ℕ) (s : RunSettings) (es : List (Event Note)) (old new 
   run_ends false (exit.Image f) run p = let e : exit.Image f ≡ exit.Limit = p.0 in absurd (cc)
 
 -- words that aren't read leave all as it was
-pub refused_ends : (job : Option JobState) (fault : WordsFault) (shelf : ShelfChange) (old : SinkChange) → (fault ≡ words.Words → job ≡ None) → CommandEnds job shelf shelf old old (refused_of fault)
-refused_ends job words.Words shelf old only = rw (only refl) (refl, refl, refl)
-refused_ends None words.Memory shelf old only = (refl, refl)
-refused_ends (Some job) words.Memory shelf old only = inl refl
+pub refused_ends : (job : Option JobState) (fault : WordsFault) (shelf : ShelfState) (old : SinkState) → (fault ≡ words.Words → job ≡ None) → (job ≡ None → fault ≡ words.Words) → CommandEnds job shelf shelf old old (refused_of fault)
+refused_ends job words.Words shelf old only all = rw (only refl) (refl, refl, refl)
+refused_ends None words.Memory shelf old only all = let e : words.Memory ≡ words.Words = all refl in absurd (cc)
+refused_ends (Some job) words.Memory shelf old only all = inl refl

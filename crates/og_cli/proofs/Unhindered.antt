@@ -6,9 +6,9 @@ use Rattle.og_cli.specs.declared.exit.Exit.{Exit}
 use Rattle.og_cli.specs.declared.exit.Exit.TheVariants as exit
 use Rattle.og_cli.specs.declared.exit.ImageFault.{ImageFault}
 use Rattle.og_cli.specs.declared.exit.ImageFault.TheVariants as fault
-use Rattle.og_cli.specs.Outside.{Files, file_of, HasFile, HasLongFile, AddsName, Rises, IsAsBefore}
+use Rattle.og_cli.specs.Outside.{ShelfState, SinkState, Files, file_of, HasFile, HasLongFile, AddsName, Rises, IsAsBefore}
 use Rattle.og_cli.specs.Words.{JobState}
-use Rattle.og_cli.specs.Exit.{ShelfChange, SinkChange, CommandEnds, EndsUnhindered, HasImage, is_built, image_fault, default_frames}
+use Rattle.og_cli.specs.Exit.{CommandEnds, EndsUnhindered, HasImage, is_built, image_fault, default_frames}
 
 -- a count that rose isn't as before
 no_rise : {A : Type 0} → (old new : ℕ) → IsAsBefore old new → Rises old new → A
@@ -43,7 +43,7 @@ no_long_file job (Some fs) image long = at (file_of fs job.name) image long
         let wrong : image_fault b job.nodes default_frames ≡ Some fault.TooLong = rw over refl in
         absurd (cc)
 
-pub ends_unhindered : (asked : Option JobState) (shelf after : ShelfChange) (old new : SinkChange) (answer : Exit) → CommandEnds asked shelf after old new answer → EndsUnhindered asked shelf after old new answer
+pub ends_unhindered : (asked : Option JobState) (shelf after : ShelfState) (old new : SinkState) (answer : Exit) → CommandEnds asked shelf after old new answer → EndsUnhindered asked shelf after old new answer
 ends_unhindered None shelf after old new answer ends = tt
 ends_unhindered (Some job) shelf after old new exit.Quiet ends = λ u. inl refl
 ends_unhindered (Some job) shelf after old new exit.Limit ends = λ u. inr (inl refl)

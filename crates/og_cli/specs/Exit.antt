@@ -1,5 +1,6 @@
 -- How the command ends, and what is told of it.
 use Rattle.std.specs.Prelude.{◌≡◌, ℕ, ◌*◌, ◌⊎◌, Bool, true, false, nat_lt, nat_eq, ◌&&◌, List, [], ◌∷◌, ◌++◌, length, cond, codes, decimal, Option, None, Some, IfSome, IsSomeAnd}
+use Rattle.og_base.specs.declared.Settings.{Settings}
 use Rattle.og_runs.specs.declared.Event.{Event}
 use Rattle.rv_hart.specs.Image.{ImageState}
 use Rattle.rv_hart.specs.Layout.{pages_of}
@@ -10,7 +11,7 @@ use Rattle.og_cli.specs.declared.exit.Exit.{Exit}
 use Rattle.og_cli.specs.declared.exit.Exit.TheVariants as exit
 use Rattle.og_cli.specs.declared.exit.ImageFault.{ImageFault}
 use Rattle.og_cli.specs.declared.exit.ImageFault.TheVariants as fault
-use Rattle.og_cli.specs.Outside.{Files, file_of, HasFile, HasLongFile, AddsName, appended, AppendsPrefix, Rises, IsAsBefore}
+use Rattle.og_cli.specs.Outside.{ShelfState, SinkState, Files, file_of, HasFile, HasLongFile, AddsName, appended, AppendsPrefix, Rises, IsAsBefore}
 use Rattle.og_cli.specs.Text.{text_of}
 use Rattle.og_cli.specs.Simulate.{IsSimulated}
 use Rattle.og_cli.specs.declared.words.WordsFault.{WordsFault}
@@ -67,6 +68,10 @@ pub record RunSettings : Type 0 where
   pub instructions : ℕ
   pub events : ℕ
 
+-- those of a machine with these settings, for so many events
+abbrev pub run_settings : Settings → ℕ → RunSettings
+run_settings s events = record { nodes = s.nodes; frames = s.frames; instructions = s.instructions; events = events }
+
 -- the text is that of a simulation from the image of these bytes, which is accepted
 pub record IsRunText (bytes : List ℕ) (s : RunSettings) (text : List ℕ) (quiet : Bool) : Type 0 where
   pub accepted : image_fault bytes s.nodes s.frames ≡ None
@@ -74,24 +79,18 @@ pub record IsRunText (bytes : List ℕ) (s : RunSettings) (text : List ℕ) (qui
   pub run : IsSimulated (image_of bytes s.nodes) (start_of (image_of bytes s.nodes) s.frames s.instructions) s.events events quiet
   pub text_is : text ≡ text_of events quiet
 
--- what a sink's counts and bytes are before and after
-pub record SinkChange : Type 0 where
-  pub held : Option (List ℕ)
-  pub faults : ℕ
-  pub wants : ℕ
-
 -- the whole text was appended
-abbrev pub Printed : List ℕ → RunSettings → SinkChange → SinkChange → Bool → Type 0
+abbrev pub Printed : List ℕ → RunSettings → SinkState → SinkState → Bool → Type 0
 Printed bytes s old new quiet = (text : List ℕ) × IsRunText bytes s text quiet × (new.held ≡ appended old.held text)
 
 -- a prefix of the text was appended
-abbrev pub Cut : List ℕ → RunSettings → SinkChange → SinkChange → Type 0
+abbrev pub Cut : List ℕ → RunSettings → SinkState → SinkState → Type 0
 Cut bytes s old new = (text : List ℕ) × (quiet : Bool) × IsRunText bytes s text quiet × AppendsPrefix text old.held new.held
 
 -- how a run from these bytes ends: quiet or at its limit, with the whole text; with a fault of the sink, whose count
 -- rose; with a fault of the image, the sink as before; for want of memory, the sink as before unless its count of wants
 -- rose
-abbrev pub RunEnds : List ℕ → RunSettings → SinkChange → SinkChange → Exit → Type 0
+abbrev pub RunEnds : List ℕ → RunSettings → SinkState → SinkState → Exit → Type 0
 RunEnds bytes s old new exit.Quiet = Printed bytes s old new true
 RunEnds bytes s old new exit.Limit = Printed bytes s old new false
 RunEnds bytes s old new exit.SinkFault = Cut bytes s old new × Rises old.faults new.faults
@@ -107,17 +106,12 @@ ended_of true = exit.Quiet
 ended_of false = exit.Limit
 
 -- how the printing of these events ends
-abbrev pub PrintEnds : List (Event Note) → Bool → SinkChange → SinkChange → Exit → Type 0
+abbrev pub PrintEnds : List (Event Note) → Bool → SinkState → SinkState → Exit → Type 0
 PrintEnds es quiet old new exit.SinkFault = AppendsPrefix (text_of es quiet) old.held new.held × Rises old.faults new.faults
 PrintEnds es quiet old new exit.Memory = (new ≡ old) ⊎ (AppendsPrefix (text_of es quiet) old.held new.held × Rises old.wants new.wants)
 PrintEnds es quiet old new other = (other ≡ ended_of quiet) × (new.held ≡ appended old.held (text_of es quiet))
 
 -- ------------------------------------------------------------ the command
-
--- what a shelf's files and failed names are before and after
-pub record ShelfChange : Type 0 where
-  pub files : Option Files
-  pub failed : List (List ℕ)
 
 -- a job that is built: a raw image and one node
 abbrev pub is_built : JobState → Bool
@@ -131,38 +125,36 @@ abbrev pub settings_of : JobState → RunSettings
 settings_of job = record { nodes = job.nodes; frames = default_frames; instructions = job.instructions; events = job.events }
 
 -- the file was read, and its run ended so
-abbrev pub ReadAndRun : JobState → ShelfChange → SinkChange → SinkChange → Exit → Type 0
+abbrev pub ReadAndRun : JobState → ShelfState → SinkState → SinkState → Exit → Type 0
 ReadAndRun job shelf old new exit = (bytes : List ℕ) × HasFile shelf.files job.name bytes × RunEnds bytes (settings_of job) old new exit
 
 -- how a job ends, with what becomes of the shelf and of the sink: what isn't built isn't begun; a fault of the shelf
 -- added the file's name to the failed ones; a file that is too long has more bytes than the limit; else the file was read
-abbrev pub JobEnds : JobState → ShelfChange → ShelfChange → SinkChange → SinkChange → Exit → Type 0
+abbrev pub JobEnds : JobState → ShelfState → ShelfState → SinkState → SinkState → Exit → Type 0
 JobEnds job shelf after old new exit.NotBuilt = (is_built job ≡ false) × (new ≡ old) × (after ≡ shelf)
 JobEnds job shelf after old new exit.ShelfFault = (is_built job ≡ true) × AddsName job.name shelf.failed after.failed × (new ≡ old)
 JobEnds job shelf after old new (exit.Image fault.TooLong) = (is_built job ≡ true) × HasLongFile shelf.files job.name 67108864 × (new ≡ old)
 JobEnds job shelf after old new exit.Memory = (new ≡ old) ⊎ ((is_built job ≡ true) × ReadAndRun job shelf old new exit.Memory)
 JobEnds job shelf after old new other = (is_built job ≡ true) × ReadAndRun job shelf old new other
 
--- how the command ends: the words are understood exactly where there is a job
--- Where the words are understood, memory for them may still be wanted: then nothing is read
-abbrev pub CommandEnds : Option JobState → ShelfChange → ShelfChange → SinkChange → SinkChange → Exit → Type 0
-CommandEnds None shelf after old new exit.Memory = (new ≡ old) × (after ≡ shelf)
-CommandEnds None shelf after old new other = (other ≡ exit.Words) × (new ≡ old) × (after ≡ shelf)
-CommandEnds (Some job) shelf after old new other = JobEnds job shelf after old new other
+-- how the command ends: words that ask for no job are answered just so, and nothing is begun
+abbrev pub CommandEnds : Option JobState → ShelfState → ShelfState → SinkState → SinkState → Exit → Type 0
+CommandEnds None shelf after old new answer = (answer ≡ exit.Words) × (new ≡ old) × (after ≡ shelf)
+CommandEnds (Some job) shelf after old new answer = JobEnds job shelf after old new answer
 
 -- the shelf tells its files, and the one of the job's name is an image that is run
 abbrev pub HasImage : JobState → Option Files → Type 0
 HasImage job files = IsSomeAnd files (λ fs. IsSomeAnd (file_of fs job.name) (λ bytes. image_fault bytes job.nodes default_frames ≡ None))
 
 -- the job is built and its image is run, no name was added to the failed ones, and the sink didn't fail
-pub record IsUnhindered (job : JobState) (shelf after : ShelfChange) (old new : SinkChange) : Type 0 where
+pub record IsUnhindered (job : JobState) (shelf after : ShelfState) (old new : SinkState) : Type 0 where
   pub built : is_built job ≡ true
   pub image : HasImage job shelf.files
   pub read : after.failed ≡ shelf.failed
   pub written : IsAsBefore old.faults new.faults
 
 -- a job that nothing hinders ends quiet, at its limit, or for want of memory
-abbrev pub EndsUnhindered : Option JobState → ShelfChange → ShelfChange → SinkChange → SinkChange → Exit → Type 0
+abbrev pub EndsUnhindered : Option JobState → ShelfState → ShelfState → SinkState → SinkState → Exit → Type 0
 EndsUnhindered asked shelf after old new answer = IfSome asked (λ job. IsUnhindered job shelf after old new → (answer ≡ exit.Quiet) ⊎ (answer ≡ exit.Limit) ⊎ (answer ≡ exit.Memory))
 
 -- what the answer's line names: the file of the words
@@ -171,7 +163,7 @@ name_of None = []
 name_of (Some job) = job.name
 
 -- the answer's line was written to the standard error, or a prefix of it where a count of the sink rose
-abbrev pub IsTold : List ℕ → SinkChange → SinkChange → Type 0
+abbrev pub IsTold : List ℕ → SinkState → SinkState → Type 0
 IsTold text old new = (new.held ≡ appended old.held text) ⊎ (AppendsPrefix text old.held new.held × (Rises old.faults new.faults ⊎ Rises old.wants new.wants))
 
 -- the answer to words that aren't understood, or for want of memory

@@ -22,6 +22,11 @@ HasFile files name bytes = IfSome files (λ fs. file_of fs name ≡ Some bytes)
 abbrev pub HasLongFile : Option Files → List ℕ → ℕ → Type 0
 HasLongFile files name limit = IfSome files (λ fs. IsSomeAnd (file_of fs name) (λ bytes. limit < length bytes))
 
+-- what contracts see of a shelf: its files, where they are told, and the names whose fetch failed, in their order
+pub record ShelfState : Type 0 where
+  pub files : Option Files
+  pub failed : List (List ℕ)
+
 -- the names are the old ones, with this one at their end
 abbrev pub AddsName : List ℕ → List (List ℕ) → List (List ℕ) → Type 0
 AddsName name old new = new ≡ old ++ name ∷ []
@@ -31,6 +36,13 @@ abbrev pub AddsAtMost : List ℕ → List (List ℕ) → List (List ℕ) → Typ
 AddsAtMost name old new = (new ≡ old) ⊎ AddsName name old new
 
 -- ------------------------------------------------------------------------------ sinks
+
+-- what contracts see of a sink: the bytes that it holds, where they are told, how often it failed to write, and how
+-- often it wanted memory
+pub record SinkState : Type 0 where
+  pub held : Option (List ℕ)
+  pub faults : ℕ
+  pub wants : ℕ
 
 -- what a sink holds, where that is told, with these bytes at its end
 abbrev pub appended : Option (List ℕ) → List ℕ → Option (List ℕ)

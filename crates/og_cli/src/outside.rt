@@ -6,7 +6,7 @@
 //! shelf keeps the names that it failed at, and a sink counts its faults.
 
 ghost use Rattle.std.specs.Prelude.{◌≡◌, ◌≢◌, ℕ, ◌≤◌, List, [], length, take, Option, Ok, Err, OnOk, OnErr, IfOk, vec_len};
-ghost use Rattle.og_cli.specs.Outside.{Files, HasFile, HasLongFile, AddsName, AddsAtMost, appended, AppendsPrefix, Rises, texts, parts_text};
+ghost use Rattle.og_cli.specs.Outside.{ShelfState, SinkState, HasFile, HasLongFile, AddsName, AddsAtMost, appended, AppendsPrefix, Rises, texts, parts_text};
 
 use std::alloc::{AllocError, Global};
 
@@ -35,20 +35,17 @@ pub enum SinkFault {
 
 /// Files by their names.
 pub trait Shelf {
-    // the files, where they are told
-    ghost files: { Self → Option Files };
-
-    // the names whose fetch failed, in their order
-    ghost failed: { Self → List (List ℕ) };
+    // its files, where they are told, and the names whose fetch failed, in their order
+    ghost seen: { Self → ShelfState };
 
     /// The bytes of the file with this name, at most `limit`.
     fn fetch(&mut self, alloc: Global, name: &str, limit: u64) -> Result<Vec<u8>, ShelfFault>
-        ensures unchanged { files self.new ≡ files self.old }
-        ensures failed_grows { AddsAtMost name.now (failed self.old) (failed self.new) }
-        ensures bytes { IfOk result (λ bytes. HasFile (files self.old) name.now bytes.items) }
+        ensures unchanged { (seen self.new).files ≡ (seen self.old).files }
+        ensures failed_grows { AddsAtMost name.now (seen self.old).failed (seen self.new).failed }
+        ensures bytes { IfOk result (λ bytes. HasFile (seen self.old).files name.now bytes.items) }
         ensures within { IfOk result (λ bytes. vec_len bytes ≤ limit) }
-        ensures added { result ≡ Err ShelfFault.Failed → AddsName name.now (failed self.old) (failed self.new) }
-        ensures too_long { result ≡ Err ShelfFault.TooLong → HasLongFile (files self.old) name.now limit };
+        ensures added { result ≡ Err ShelfFault.Failed → AddsName name.now (seen self.old).failed (seen self.new).failed }
+        ensures too_long { result ≡ Err ShelfFault.TooLong → HasLongFile (seen self.old).files name.now limit };
 }
 
 impl From<AllocError> for ShelfFault {
@@ -85,26 +82,20 @@ fn name_fault(names: &mut Vec<String>, alloc: Global, name: &str) -> ShelfFault
 
 /// What takes bytes, and may take fewer than it is given.
 pub trait Sink {
-    // the bytes that it holds, where they are told
-    ghost held: { Self → Option (List ℕ) };
-
-    // how often it failed to write
-    ghost faults: { Self → ℕ };
-
-    // how often it wanted memory
-    ghost wants: { Self → ℕ };
+    // the bytes that it holds, where they are told, and how often it failed to write and wanted memory
+    ghost seen: { Self → SinkState };
 
     /// Takes some first bytes of the piece, at least one unless it is empty, and says how many.
     fn write(&mut self, piece: &[u8]) -> Result<usize, SinkFault>
-        ensures empty { piece.now ≡ [] → (result ≡ Ok 0) × (held self.new ≡ held self.old) × (faults self.new ≡ faults self.old) × (wants self.new ≡ wants self.old) }
+        ensures empty { piece.now ≡ [] → (result ≡ Ok 0) × (seen self.new ≡ seen self.old) }
         ensures taken { IfOk result (λ n. n ≤ length piece.now) }
         ensures some { piece.now ≢ [] → IfOk result (λ n. 1 ≤ n) }
-        ensures appends { IfOk result (λ n. held self.new ≡ appended (held self.old) (take n piece.now)) }
-        ensures nothing { OnErr result (held self.new ≡ held self.old) }
-        ensures fault { result ≡ Err SinkFault.Failed → Rises (faults self.old) (faults self.new) }
-        ensures want { result ≡ Err SinkFault.Memory → Rises (wants self.old) (wants self.new) }
-        ensures faults_stay { faults self.old ≤ faults self.new }
-        ensures wants_stay { wants self.old ≤ wants self.new };
+        ensures appends { IfOk result (λ n. (seen self.new).held ≡ appended (seen self.old).held (take n piece.now)) }
+        ensures nothing { OnErr result ((seen self.new).held ≡ (seen self.old).held) }
+        ensures fault { result ≡ Err SinkFault.Failed → Rises (seen self.old).faults (seen self.new).faults }
+        ensures want { result ≡ Err SinkFault.Memory → Rises (seen self.old).wants (seen self.new).wants }
+        ensures faults_stay { (seen self.old).faults ≤ (seen self.new).faults }
+        ensures wants_stay { (seen self.old).wants ≤ (seen self.new).wants };
 }
 
 /// The most that is handed to a sink at once.
@@ -121,12 +112,12 @@ fn first_piece(text: &[u8]) -> &[u8]
 fn write_piece<K: Sink>(sink: &mut K, text: &[u8]) -> Result<usize, SinkFault>
     ensures taken { IfOk result (λ n. n ≤ length text.now) }
     ensures some { text.now ≢ [] → IfOk result (λ n. 1 ≤ n) }
-    ensures appends { IfOk result (λ n. K.held sink.new ≡ appended (K.held sink.old) (take n text.now)) }
-    ensures nothing { OnErr result (K.held sink.new ≡ K.held sink.old) }
-    ensures fault { result ≡ Err SinkFault.Failed → Rises (K.faults sink.old) (K.faults sink.new) }
-    ensures want { result ≡ Err SinkFault.Memory → Rises (K.wants sink.old) (K.wants sink.new) }
-    ensures faults_stay { K.faults sink.old ≤ K.faults sink.new }
-    ensures wants_stay { K.wants sink.old ≤ K.wants sink.new }
+    ensures appends { IfOk result (λ n. (K.seen sink.new).held ≡ appended (K.seen sink.old).held (take n text.now)) }
+    ensures nothing { OnErr result ((K.seen sink.new).held ≡ (K.seen sink.old).held) }
+    ensures fault { result ≡ Err SinkFault.Failed → Rises (K.seen sink.old).faults (K.seen sink.new).faults }
+    ensures want { result ≡ Err SinkFault.Memory → Rises (K.seen sink.old).wants (K.seen sink.new).wants }
+    ensures faults_stay { (K.seen sink.old).faults ≤ (K.seen sink.new).faults }
+    ensures wants_stay { (K.seen sink.old).wants ≤ (K.seen sink.new).wants }
 {
     sink.write(first_piece(text))
 }
@@ -134,12 +125,12 @@ fn write_piece<K: Sink>(sink: &mut K, text: &[u8]) -> Result<usize, SinkFault>
 /// Writes the whole text, in pieces of at most 65,536 bytes. After a refusal some first bytes of the
 /// text were appended, and the fault is that of the sink's last call.
 pub fn write_all<K: Sink>(sink: &mut K, text: &[u8]) -> Result<(), SinkFault>
-    ensures whole { OnOk result (K.held sink.new ≡ appended (K.held sink.old) text.now) }
-    ensures prefix { OnErr result (AppendsPrefix text.now (K.held sink.old) (K.held sink.new)) }
-    ensures fault { result ≡ Err SinkFault.Failed → Rises (K.faults sink.old) (K.faults sink.new) }
-    ensures want { result ≡ Err SinkFault.Memory → Rises (K.wants sink.old) (K.wants sink.new) }
-    ensures faults_stay { K.faults sink.old ≤ K.faults sink.new }
-    ensures wants_stay { K.wants sink.old ≤ K.wants sink.new }
+    ensures whole { OnOk result ((K.seen sink.new).held ≡ appended (K.seen sink.old).held text.now) }
+    ensures prefix { OnErr result (AppendsPrefix text.now (K.seen sink.old).held (K.seen sink.new).held) }
+    ensures fault { result ≡ Err SinkFault.Failed → Rises (K.seen sink.old).faults (K.seen sink.new).faults }
+    ensures want { result ≡ Err SinkFault.Memory → Rises (K.seen sink.old).wants (K.seen sink.new).wants }
+    ensures faults_stay { (K.seen sink.old).faults ≤ (K.seen sink.new).faults }
+    ensures wants_stay { (K.seen sink.old).wants ≤ (K.seen sink.new).wants }
 {
     let mut rest = text;
     while !rest.is_empty() {
@@ -152,12 +143,12 @@ pub fn write_all<K: Sink>(sink: &mut K, text: &[u8]) -> Result<(), SinkFault>
 /// Writes the parts of a text, one after the other, and takes no memory itself. After a refusal some
 /// first bytes of the text were appended, and the fault is that of the sink's last call.
 pub fn write_parts<K: Sink>(sink: &mut K, parts: &[&[u8]]) -> Result<(), SinkFault>
-    ensures whole { OnOk result (K.held sink.new ≡ appended (K.held sink.old) (parts_text parts.now)) }
-    ensures prefix { OnErr result (AppendsPrefix (parts_text parts.now) (K.held sink.old) (K.held sink.new)) }
-    ensures fault { result ≡ Err SinkFault.Failed → Rises (K.faults sink.old) (K.faults sink.new) }
-    ensures want { result ≡ Err SinkFault.Memory → Rises (K.wants sink.old) (K.wants sink.new) }
-    ensures faults_stay { K.faults sink.old ≤ K.faults sink.new }
-    ensures wants_stay { K.wants sink.old ≤ K.wants sink.new }
+    ensures whole { OnOk result ((K.seen sink.new).held ≡ appended (K.seen sink.old).held (parts_text parts.now)) }
+    ensures prefix { OnErr result (AppendsPrefix (parts_text parts.now) (K.seen sink.old).held (K.seen sink.new).held) }
+    ensures fault { result ≡ Err SinkFault.Failed → Rises (K.seen sink.old).faults (K.seen sink.new).faults }
+    ensures want { result ≡ Err SinkFault.Memory → Rises (K.seen sink.old).wants (K.seen sink.new).wants }
+    ensures faults_stay { (K.seen sink.old).faults ≤ (K.seen sink.new).faults }
+    ensures wants_stay { (K.seen sink.old).wants ≤ (K.seen sink.new).wants }
 {
     for part in parts {
         write_all(sink, part)?;

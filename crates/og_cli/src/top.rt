@@ -6,7 +6,7 @@ ghost use Rattle.og_core.specs.Machine.{start_of};
 ghost use Rattle.og_cli.specs.Outside.{appended, AppendsPrefix, Rises, parts_text, texts};
 ghost use Rattle.og_cli.specs.Simulate.{IsSimulated};
 ghost use Rattle.og_cli.specs.Text.{text_of};
-ghost use Rattle.og_cli.specs.Exit.{fault_text, refused_of, default_frames, ShelfChange, is_built, JobEnds, CommandEnds, EndsUnhindered, IsTold, name_of, PrintEnds, ended_of, RunSettings, SinkChange, RunEnds, IsRunText, image_of, image_fault, told_of};
+ghost use Rattle.og_cli.specs.Exit.{fault_text, refused_of, default_frames, is_built, JobEnds, CommandEnds, EndsUnhindered, IsTold, name_of, PrintEnds, ended_of, run_settings, RunEnds, IsRunText, image_of, image_fault, told_of};
 ghost use Rattle.og_cli.specs.Words.{job_seen, job_of};
 
 use crate::exit::{Exit, ImageFault};
@@ -27,7 +27,7 @@ const MOST_IMAGE: u64 = 67_108_864;
 
 /// Writes the text of a simulation.
 fn print<K: Sink>(alloc: Global, simulated: &Simulated, out: &mut K) -> Exit
-    ensures { PrintEnds simulated.now.events.items simulated.now.quiet (record { held = K.held out.old; faults = K.faults out.old; wants = K.wants out.old }) (record { held = K.held out.new; faults = K.faults out.new; wants = K.wants out.new }) result }
+    ensures { PrintEnds simulated.now.events.items simulated.now.quiet (K.seen out.old) (K.seen out.new) result }
 {
     let text = match write_text(alloc, &simulated.events, simulated.quiet) {
         Ok(text) => text,
@@ -57,7 +57,7 @@ fn run_bytes<K: Sink>(
 ) -> Exit
     requires one { settings.now.nodes ≡ 1 }
     requires within { length bytes.now ≤ 67108864 }
-    ensures { RunEnds bytes.now (record { nodes = settings.now.nodes; frames = settings.now.frames; instructions = settings.now.instructions; events = events }) (record { held = K.held out.old; faults = K.faults out.old; wants = K.wants out.old }) (record { held = K.held out.new; faults = K.faults out.new; wants = K.wants out.new }) result }
+    ensures { RunEnds bytes.now (run_settings settings.now events) (K.seen out.old) (K.seen out.new) result }
 {
     let elf = match read_raw(alloc, bytes) {
         Ok(elf) => elf,
@@ -85,7 +85,7 @@ fn run_bytes<K: Sink>(
 fn perform<F: Shelf, K: Sink>(alloc: Global, job: &Job, shelf: &mut F, out: &mut K) -> Exit
     requires nodes { (1 ≤ job.now.nodes) × (job.now.nodes ≤ 16) }
     requires instructions { job.now.instructions ≤ 1000000 }
-    ensures { JobEnds (job_seen job.now) (record { files = F.files shelf.old; failed = F.failed shelf.old }) (record { files = F.files shelf.new; failed = F.failed shelf.new }) (record { held = K.held out.old; faults = K.faults out.old; wants = K.wants out.old }) (record { held = K.held out.new; faults = K.faults out.new; wants = K.wants out.new }) result }
+    ensures { JobEnds (job_seen job.now) (F.seen shelf.old) (F.seen shelf.new) (K.seen out.old) (K.seen out.new) result }
 {
     if !job.raw || job.nodes != 1 {
         return Exit::NotBuilt;
@@ -123,14 +123,14 @@ fn settings(nodes: u8, instructions: u32) -> Settings
 
 /// Writes a line in parts; a failure changes nothing else.
 fn tell_parts<E: Sink>(parts: &[&[u8]], err: &mut E)
-    ensures { IsTold (parts_text parts.now) (record { held = E.held err.old; faults = E.faults err.old; wants = E.wants err.old }) (record { held = E.held err.new; faults = E.faults err.new; wants = E.wants err.new }) }
+    ensures { IsTold (parts_text parts.now) (E.seen err.old) (E.seen err.new) }
 {
     let _told = write_parts(err, parts);
 }
 
 /// Writes why an image is refused.
 fn tell_fault<E: Sink>(fault: ImageFault, err: &mut E)
-    ensures { IsTold (fault_text fault) (record { held = E.held err.old; faults = E.faults err.old; wants = E.wants err.old }) (record { held = E.held err.new; faults = E.faults err.new; wants = E.wants err.new }) }
+    ensures { IsTold (fault_text fault) (E.seen err.old) (E.seen err.new) }
 {
     match fault {
         ImageFault::Raw => tell_parts(&[b"origin: image RawOut", b"\n"], err),
@@ -156,7 +156,7 @@ fn tell_fault<E: Sink>(fault: ImageFault, err: &mut E)
 
 /// Writes the one line that tells the answer.
 fn tell<E: Sink>(exit: &Exit, name: &str, err: &mut E)
-    ensures { IsTold (told_of name.now exit.now) (record { held = E.held err.old; faults = E.faults err.old; wants = E.wants err.old }) (record { held = E.held err.new; faults = E.faults err.new; wants = E.wants err.new }) }
+    ensures { IsTold (told_of name.now exit.now) (E.seen err.old) (E.seen err.new) }
 {
     match *exit {
         Exit::Words => tell_parts(&[b"origin: words", b"\n"], err),
@@ -180,9 +180,9 @@ pub fn origin_alone<F: Shelf, K: Sink, E: Sink>(
     out: &mut K,
     err: &mut E,
 ) -> Exit
-    ensures ends { CommandEnds (job_of (texts words.now)) (record { files = F.files shelf.old; failed = F.failed shelf.old }) (record { files = F.files shelf.new; failed = F.failed shelf.new }) (record { held = K.held out.old; faults = K.faults out.old; wants = K.wants out.old }) (record { held = K.held out.new; faults = K.faults out.new; wants = K.wants out.new }) result }
-    ensures unhindered { EndsUnhindered (job_of (texts words.now)) (record { files = F.files shelf.old; failed = F.failed shelf.old }) (record { files = F.files shelf.new; failed = F.failed shelf.new }) (record { held = K.held out.old; faults = K.faults out.old; wants = K.wants out.old }) (record { held = K.held out.new; faults = K.faults out.new; wants = K.wants out.new }) result }
-    ensures told { IsTold (told_of (name_of (job_of (texts words.now))) result) (record { held = E.held err.old; faults = E.faults err.old; wants = E.wants err.old }) (record { held = E.held err.new; faults = E.faults err.new; wants = E.wants err.new }) }
+    ensures ends { CommandEnds (job_of (texts words.now)) (F.seen shelf.old) (F.seen shelf.new) (K.seen out.old) (K.seen out.new) result }
+    ensures unhindered { EndsUnhindered (job_of (texts words.now)) (F.seen shelf.old) (F.seen shelf.new) (K.seen out.old) (K.seen out.new) result }
+    ensures told { IsTold (told_of (name_of (job_of (texts words.now))) result) (E.seen err.old) (E.seen err.new) }
 {
     let job = match read_words(alloc, words) {
         Ok(job) => job,
@@ -196,7 +196,7 @@ pub fn origin_alone<F: Shelf, K: Sink, E: Sink>(
 /// The answer to words that aren't understood, or for want of memory.
 fn refuse<E: Sink>(fault: WordsFault, err: &mut E) -> Exit
     ensures answer { result ≡ refused_of fault }
-    ensures told { IsTold (told_of [] result) (record { held = E.held err.old; faults = E.faults err.old; wants = E.wants err.old }) (record { held = E.held err.new; faults = E.faults err.new; wants = E.wants err.new }) }
+    ensures told { IsTold (told_of [] result) (E.seen err.old) (E.seen err.new) }
 {
     let exit = match fault {
         WordsFault::Words => Exit::Words,

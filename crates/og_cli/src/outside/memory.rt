@@ -2,7 +2,7 @@
 
 ghost use Rattle.std.specs.Prelude.{◌≡◌, ◌≢◌, ℕ, ◌+◌, ◌-◌, ◌^◌, ◌<◌, ◌≤◌, ◌⊎◌, min, List, [], ◌∷◌, ◌++◌, length, take, map, Option, None, Some, Ok, Err, OnOk, OnErr, IfOk, MatchOption, vec_len, string_bytes, Contains};
 ghost use Rattle.og_cli.specs.Memory.{entries, one_more};
-ghost use Rattle.og_cli.specs.Outside.{Files, file_of, HasFile, HasLongFile, AddsName, AddsAtMost, appended, Rises, texts};
+ghost use Rattle.og_cli.specs.Outside.{ShelfState, SinkState, file_of, HasFile, HasLongFile, AddsName, AddsAtMost, appended, Rises, texts};
 
 use super::{Shelf, ShelfFault, Sink, SinkFault, name_fault};
 use og_base::NoMemory;
@@ -83,9 +83,7 @@ fn copy_of(alloc: Global, bytes: &[u8], limit: u64) -> Result<Vec<u8>, ShelfFaul
 }
 
 impl Shelf for MemoryShelf {
-    ghost files = { λ s. Some s.files };
-
-    ghost failed = { λ s. s.failed };
+    ghost seen = { λ s. record { files = Some s.files; failed = s.failed } };
 
     fn fetch(&mut self, alloc: Global, name: &str, limit: u64) -> Result<Vec<u8>, ShelfFault>
         ensures unchanged { Some self.new.files ≡ Some self.old.files }
@@ -170,11 +168,7 @@ impl MemorySink {
 }
 
 impl Sink for MemorySink {
-    ghost held = { λ s. Some s.held };
-
-    ghost faults = { λ s. s.faults };
-
-    ghost wants = { λ s. s.wants };
+    ghost seen = { λ s. record { held = Some s.held; faults = s.faults; wants = s.wants } };
 
     fn write(&mut self, piece: &[u8]) -> Result<usize, SinkFault>
         ensures empty { piece.now ≡ [] → (result ≡ Ok 0) × (self.new ≡ self.old) }

@@ -3,7 +3,7 @@
 
 ghost use Rattle.std.specs.Prelude.{◌≡◌, ◌≢◌, ℕ, ◌+◌, ◌<◌, ◌≤◌, List, [], ◌++◌, length, Option, None, Ok, Err, OnErr, IfOk, IsTrue, vec_len};
 ghost use Rattle.std.specs.Io.KnownBytes.{Consumes, IsAtEnd, WriteAppends};
-ghost use Rattle.og_cli.specs.Outside.{Files as FilesByName, HasFile, HasLongFile, AddsName, AddsAtMost, appended, Rises, texts};
+ghost use Rattle.og_cli.specs.Outside.{ShelfState, SinkState, HasFile, HasLongFile, AddsName, AddsAtMost, appended, Rises, texts};
 
 use super::{PIECE_BYTES, Shelf, ShelfFault, Sink, SinkFault, name_fault};
 use std::alloc::Global;
@@ -21,7 +21,7 @@ pub struct FileShelf<'a, R: Files> {
 impl<'a, R: Files> FileShelf<'a, R> {
     /// Takes no memory.
     pub fn make(files: &'a R, alloc: Global) -> FileShelf<'a, R>
-        ensures none_failed { ⟦<FileShelf<'a, R> as Shelf>⟧.failed result ≡ [] }
+        ensures none_failed { (⟦<FileShelf<'a, R> as Shelf>⟧.seen result).failed ≡ [] }
     {
         FileShelf {
             files,
@@ -95,9 +95,7 @@ fn read_file<R: Files>(
 }
 
 impl<R: Files> Shelf for FileShelf<'_, R> {
-    ghost files = { λ _. None };
-
-    ghost failed = { λ s. texts s.failed.items };
+    ghost seen = { λ s. record { files = None; failed = texts s.failed.items } };
 
     fn fetch(&mut self, alloc: Global, name: &str, limit: u64) -> Result<Vec<u8>, ShelfFault> {
         match read_file(self.files, alloc, name, limit) {
@@ -117,7 +115,7 @@ pub struct StreamSink<W> {
 impl<W: Write + Drop> StreamSink<W> {
     /// Takes no memory. Its count of faults is 0.
     pub fn make(writer: W) -> StreamSink<W>
-        ensures no_faults { ⟦<StreamSink<W> as Sink>⟧.faults result ≡ 0 }
+        ensures no_faults { (⟦<StreamSink<W> as Sink>⟧.seen result).faults ≡ 0 }
     {
         StreamSink { writer, faults: 0 }
     }
@@ -138,11 +136,7 @@ fn write_some<W: Write>(writer: &mut W, piece: &[u8]) -> io::Result<usize>
 }
 
 impl<W: Write + Drop> Sink for StreamSink<W> {
-    ghost held = { λ _. None };
-
-    ghost faults = { λ s. s.faults };
-
-    ghost wants = { λ _. 0 };
+    ghost seen = { λ s. record { held = None; faults = s.faults; wants = 0 } };
 
     fn write(&mut self, piece: &[u8]) -> Result<usize, SinkFault> {
         if piece.is_empty() {

@@ -6,8 +6,8 @@ use Rattle.og_cli.proofs.outside.write_all.Goals as goal
 
 pub returns-in_err-written-clause-prefix : goal.returns-in_err-written-clause-prefix
 returns-in_err-written-clause-prefix g c =
-    on_err c.from_residual.result (AppendsPrefix c.args.text.now (g.K.Sink.held c.args.sink.now) (g.K.Sink.held c.write_piece.new.sink))
-    (prefix_of_split c.args.text.now c.loop-rest.invariant.split.0 c.loop-rest.rest.now (g.K.Sink.held c.args.sink.now) (g.K.Sink.held c.write_piece.new.sink) c.loop-rest.invariant.split.1 (c.in_err-written.ensures.nothing ∙ c.loop-rest.invariant.split.2))
+    on_err c.from_residual.result (AppendsPrefix c.args.text.now (g.K.Sink.seen c.args.sink.now).held (g.K.Sink.seen c.write_piece.new.sink).held)
+    (prefix_of_split c.args.text.now c.loop-rest.invariant.split.0 c.loop-rest.rest.now (g.K.Sink.seen c.args.sink.now).held (g.K.Sink.seen c.write_piece.new.sink).held c.loop-rest.invariant.split.1 (c.in_err-written.ensures.nothing ∙ c.loop-rest.invariant.split.2))
 
 pub loop-rest-preserved : goal.loop-rest-preserved
-loop-rest-preserved g c = record { split = split_more c.args.text.now c.loop-rest.invariant.split.0 c.loop-rest.rest.now c.in_ok-written.written (g.K.Sink.held c.args.sink.now) (g.K.Sink.held c.loop-rest.sink) (g.K.Sink.held c.write_piece.new.sink) c.loop-rest.invariant.split.1 c.loop-rest.invariant.split.2 c.in_ok-written.ensures.appends; faults_stay = omega arith; wants_stay = omega arith }
+loop-rest-preserved g c = record { split = split_more c.args.text.now c.loop-rest.invariant.split.0 c.loop-rest.rest.now c.in_ok-written.written (g.K.Sink.seen c.args.sink.now).held (g.K.Sink.seen c.loop-rest.sink).held (g.K.Sink.seen c.write_piece.new.sink).held c.loop-rest.invariant.split.1 c.loop-rest.invariant.split.2 c.in_ok-written.ensures.appends; faults_stay = omega arith; wants_stay = omega arith }

@@ -5,9 +5,9 @@ use Rattle.og_cli.proofs.outside.write_all.Given as goal
 
 abbrev pub invariant-loop-rest : goal.invariant-loop-rest
 invariant-loop-rest g l = record {
-  split : (written : List ℕ) × (l.text ≡ written ++ l.rest) × (g.K.Sink.held l.sink ≡ appended (g.K.Sink.held l.initial.sink) written);
-  faults_stay : g.K.Sink.faults l.initial.sink ≤ g.K.Sink.faults l.sink;
-  wants_stay : g.K.Sink.wants l.initial.sink ≤ g.K.Sink.wants l.sink;
+  split : (written : List ℕ) × (l.text ≡ written ++ l.rest) × ((g.K.Sink.seen l.sink).held ≡ appended (g.K.Sink.seen l.initial.sink).held written);
+  faults_stay : (g.K.Sink.seen l.initial.sink).faults ≤ (g.K.Sink.seen l.sink).faults;
+  wants_stay : (g.K.Sink.seen l.initial.sink).wants ≤ (g.K.Sink.seen l.sink).wants;
 }
 
 abbrev pub decreases-loop-rest : goal.decreases-loop-rest

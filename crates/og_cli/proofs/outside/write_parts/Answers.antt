@@ -5,12 +5,12 @@ use Rattle.og_cli.proofs.outside.write_parts.Goals as goal
 
 pub returns-in_err-write_all-clause-prefix : goal.returns-in_err-write_all-clause-prefix
 returns-in_err-write_all-clause-prefix g c =
-    on_err c.from_residual.result (AppendsPrefix (parts_text c.args.parts.now) (g.K.Sink.held c.args.sink.now) (g.K.Sink.held c.write_all.new.sink))
-    (prefix_of_part c.args.parts.now c.loop-part.part-index _ c.loop-part.invariant.split.0 (g.K.Sink.held c.args.sink.now) (g.K.Sink.held c.loop-part.sink) (g.K.Sink.held c.write_all.new.sink) c.loop-part-test.true c.loop-part.invariant.split.1 c.loop-part.invariant.split.2 c.in_err-write_all.ensures.prefix)
+    on_err c.from_residual.result (AppendsPrefix (parts_text c.args.parts.now) (g.K.Sink.seen c.args.sink.now).held (g.K.Sink.seen c.write_all.new.sink).held)
+    (prefix_of_part c.args.parts.now c.loop-part.part-index _ c.loop-part.invariant.split.0 (g.K.Sink.seen c.args.sink.now).held (g.K.Sink.seen c.loop-part.sink).held (g.K.Sink.seen c.write_all.new.sink).held c.loop-part-test.true c.loop-part.invariant.split.1 c.loop-part.invariant.split.2 c.in_err-write_all.ensures.prefix)
 
 pub loop-part-preserved : goal.loop-part-preserved
 loop-part-preserved g c = record {
-  split = split_part c.args.parts.now c.loop-part.part-index _ c.loop-part.invariant.split.0 (g.K.Sink.held c.args.sink.now) (g.K.Sink.held c.loop-part.sink) (g.K.Sink.held c.write_all.new.sink) c.loop-part-test.true c.loop-part.invariant.split.1 c.loop-part.invariant.split.2 c.in_ok-write_all.ensures.whole;
+  split = split_part c.args.parts.now c.loop-part.part-index _ c.loop-part.invariant.split.0 (g.K.Sink.seen c.args.sink.now).held (g.K.Sink.seen c.loop-part.sink).held (g.K.Sink.seen c.write_all.new.sink).held c.loop-part-test.true c.loop-part.invariant.split.1 c.loop-part.invariant.split.2 c.in_ok-write_all.ensures.whole;
   faults_stay = omega arith;
   wants_stay = omega arith;
 }

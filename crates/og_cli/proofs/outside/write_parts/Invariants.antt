@@ -5,7 +5,7 @@ use Rattle.og_cli.proofs.outside.write_parts.Given as goal
 
 abbrev pub invariant-loop-part : goal.invariant-loop-part
 invariant-loop-part g l = record {
-  split : (written : List ℕ) × (parts_text l.parts ≡ written ++ parts_text (drop l.part-index l.parts)) × (g.K.Sink.held l.sink ≡ appended (g.K.Sink.held l.initial.sink) written);
-  faults_stay : g.K.Sink.faults l.initial.sink ≤ g.K.Sink.faults l.sink;
-  wants_stay : g.K.Sink.wants l.initial.sink ≤ g.K.Sink.wants l.sink;
+  split : (written : List ℕ) × (parts_text l.parts ≡ written ++ parts_text (drop l.part-index l.parts)) × ((g.K.Sink.seen l.sink).held ≡ appended (g.K.Sink.seen l.initial.sink).held written);
+  faults_stay : (g.K.Sink.seen l.initial.sink).faults ≤ (g.K.Sink.seen l.sink).faults;
+  wants_stay : (g.K.Sink.seen l.initial.sink).wants ≤ (g.K.Sink.seen l.sink).wants;
 }

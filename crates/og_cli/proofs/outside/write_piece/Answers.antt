@@ -10,4 +10,4 @@ returns-clause-some g c = piece_some c.write.result 65536 c.args.text.now c.firs
 
 pub returns-clause-appends : goal.returns-clause-appends
 returns-clause-appends g c =
-    piece_appends c.write.result 65536 c.args.text.now c.first_piece.result.now (g.K.Sink.held c.args.sink.now) (g.K.Sink.held c.write.new.self) c.first_piece.ensures c.write.ensures.taken c.write.ensures.appends
+    piece_appends c.write.result 65536 c.args.text.now c.first_piece.result.now (g.K.Sink.seen c.args.sink.now).held (g.K.Sink.seen c.write.new.self).held c.first_piece.ensures c.write.ensures.taken c.write.ensures.appends

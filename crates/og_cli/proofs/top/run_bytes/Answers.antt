@@ -19,5 +19,5 @@ returns-in-Ok-simulate g c =
     let run : IsSimulated (image_of c.args.bytes.now c.args.settings.now.nodes) (start_of (image_of c.args.bytes.now c.args.settings.now.nodes) c.args.settings.now.frames c.args.settings.now.instructions) c.args.events c.in-Ok-simulate.simulated.events.items c.in-Ok-simulate.simulated.quiet =
     subst (λ (i : ImageState). IsSimulated i (start_of i c.args.settings.now.frames c.args.settings.now.instructions) c.args.events c.in-Ok-simulate.simulated.events.items c.in-Ok-simulate.simulated.quiet) image_is one in
     run_ends c.args.bytes.now (record { nodes = c.args.settings.now.nodes; frames = c.args.settings.now.frames; instructions = c.args.settings.now.instructions; events = c.args.events }) c.in-Ok-simulate.simulated.events.items
-    (record { held = g.K.Sink.held c.args.out.now; faults = g.K.Sink.faults c.args.out.now; wants = g.K.Sink.wants c.args.out.now }) (record { held = g.K.Sink.held c.print.new.out; faults = g.K.Sink.faults c.print.new.out; wants = g.K.Sink.wants c.print.new.out })
+    (g.K.Sink.seen c.args.out.now) (g.K.Sink.seen c.print.new.out)
     fine c.in-Ok-simulate.simulated.quiet c.print.result run c.print.ensures
