@@ -25,6 +25,7 @@ use Rattle.og_core.specs.declared.msg.Kind.{Kind}
 use Rattle.og_core.specs.declared.msg.Kind.TheVariants.{ReadEx, ExclusiveReply}
 use Rattle.og_core.specs.declared.msg.Note.{Note}
 use Rattle.og_core.specs.declared.msg.Note.TheVariants as note
+use Rattle.og_core.specs.declared.node.Done.{Done}
 
 -- what stays the same over a run: the program, where its pages stand, and the frames of each node
 pub record Setup : Type 0 where
@@ -60,6 +61,10 @@ Gives = Option (Outcome NodeState Kind Note)
 abbrev pub letters_of : Option (Letter Kind) → List (Letter Kind)
 letters_of None = []
 letters_of (Some letter) = letter ∷ []
+
+-- an event's outcome: the node's new state, and what the event gives besides
+abbrev pub outcome_of : NodeState → Done → Outcome NodeState Kind Note
+outcome_of x done = record { local = x; letters = letters_of done.letter; note = done.note }
 
 -- each line of a node has seen fewer than 2 ^ 63 stores
 pub record IsYoung (x : NodeState) : Type 0 where

@@ -4,7 +4,7 @@ ghost use Rattle.std.specs.Prelude.{◌≡◌, ◌≢◌, ℕ, ◌+◌, ◌*◌,
 ghost use Rattle.og_runs.specs.Runs.{Outcome};
 ghost use Rattle.rv_hart.specs.Hart.{need_of};
 ghost use Rattle.og_line.specs.Access.{IsAligned, addr_of};
-ghost use Rattle.og_core.specs.Node.{NodeState, setup_of, act_of, take_of, letters_of, IsYoung, can_act_of, block_at, block_number, home_number, stop_note, completed, access_note, by_block, by_copy, by_entry, by_fill, IsLow};
+ghost use Rattle.og_core.specs.Node.{NodeState, setup_of, act_of, take_of, outcome_of, IsYoung, can_act_of, block_at, block_number, home_number, stop_note, completed, access_note, by_block, by_copy, by_entry, by_fill, IsLow};
 ghost use Rattle.og_core.specs.Start.{start_node, home_lines, home_line_of};
 ghost use Rattle.std.specs.Prelude.{IfOk};
 
@@ -111,7 +111,7 @@ impl Node {
     pub fn act(&mut self, image: &Image, layout: &Layout, frames: u16) -> Done
         requires enabled { act_of (setup_of image.now layout.now frames) self.old ≢ None }
         requires young { IsYoung self.old }
-        ensures { act_of (setup_of image.now layout.now frames) self.old ≡ Some (record { local = self.new; letters = letters_of result.letter; note = result.note }) }
+        ensures { act_of (setup_of image.now layout.now frames) self.old ≡ Some (outcome_of self.new result) }
     {
         match self.hart.next(image) {
             Need::Plain => {
@@ -146,7 +146,7 @@ impl Node {
         requires aligned { IsAligned access }
         requires enabled { by_block (setup_of image.now layout.now frames) self.old access (block_at layout.now (addr_of access)) ≢ None }
         requires young { IsYoung self.old }
-        ensures { by_block (setup_of image.now layout.now frames) self.old access (block_at layout.now (addr_of access)) ≡ Some (record { local = self.new; letters = letters_of result.letter; note = result.note }) }
+        ensures { by_block (setup_of image.now layout.now frames) self.old access (block_at layout.now (addr_of access)) ≡ Some (outcome_of self.new result) }
     {
         let block = match block_of(layout, access.addr()) {
             Some(block) => block,
@@ -161,7 +161,7 @@ impl Node {
         requires aligned { IsAligned access }
         requires inside { number < length self.old.copies }
         requires young { IsYoung self.old }
-        ensures { by_copy image.now self.old access number block (slice_get self.old.copies number) ≡ Some (record { local = self.new; letters = letters_of result.letter; note = result.note }) }
+        ensures { by_copy image.now self.old access number block (slice_get self.old.copies number) ≡ Some (outcome_of self.new result) }
     {
         match self.copies[number] {
             Some(line) => self.complete(image, number, line, access),
@@ -209,7 +209,7 @@ impl Node {
         requires running { self.old.hart.cause ≡ None }
         requires young { IsYoung self.old }
         requires low { IsLow message.now.kind }
-        ensures { take_of (setup_of image.now layout.now frames) node self.old message.now ≡ Some (record { local = self.new; letters = letters_of result.letter; note = result.note }) }
+        ensures { take_of (setup_of image.now layout.now frames) node self.old message.now ≡ Some (outcome_of self.new result) }
     {
         match message.kind {
             Kind::ReadEx { block } => self.serve(home_number(block), block, message.id.sender),
@@ -222,7 +222,7 @@ impl Node {
     /// The home's table for a read-exclusive.
     fn serve(&mut self, at: usize, block: Block, sender: NodeId) -> Done
         requires row { by_entry self.old block at sender (slice_get self.old.entries at) (slice_get self.old.lines at) ≢ None }
-        ensures { by_entry self.old block at sender (slice_get self.old.entries at) (slice_get self.old.lines at) ≡ Some (record { local = self.new; letters = letters_of result.letter; note = result.note }) }
+        ensures { by_entry self.old block at sender (slice_get self.old.entries at) (slice_get self.old.lines at) ≡ Some (outcome_of self.new result) }
     {
         let line = self.lines[at];
         self.entries[at] = Entry::Exclusive(sender);
@@ -244,7 +244,7 @@ impl Node {
         requires row { by_fill image.now self.old number line (slice_get self.old.copies number) (need_of image.now self.old.hart) ≢ None }
         requires running { self.old.hart.cause ≡ None }
         requires young { line.stores < 2 ^ 63 }
-        ensures { by_fill image.now self.old number line (slice_get self.old.copies number) (need_of image.now self.old.hart) ≡ Some (record { local = self.new; letters = letters_of result.letter; note = result.note }) }
+        ensures { by_fill image.now self.old number line (slice_get self.old.copies number) (need_of image.now self.old.hart) ≡ Some (outcome_of self.new result) }
     {
         let access = match self.hart.next(image) {
             Need::Access(access) => access,
