@@ -5,6 +5,8 @@
 //! standard output shows is trusted here.
 #![tactic(auto)]
 
+ghost use Rattle.std.specs.Prelude.{◌≡◌, drop};
+
 use og_cli::outside::real::{FileShelf, StreamSink};
 use og_cli::top::origin_alone;
 use std::env;
@@ -14,22 +16,28 @@ use std::process::ExitCode;
 const NO_WORDS: u8 = 15;
 
 fn main(rt: HostRuntime) -> ExitCode {
-    let words = match words_of(&rt) {
-        Some(words) => words,
-        None => return ExitCode::from(NO_WORDS),
+    let Some(arguments) = arguments(&rt) else {
+        return ExitCode::from(NO_WORDS);
     };
+    let words = after_name(&arguments);
     let mut shelf = FileShelf::make(&rt, rt.alloc());
     let mut out = StreamSink::make(rt.stdout());
     let mut err = StreamSink::make(rt.stderr());
-    let exit = origin_alone(rt.alloc(), &words, &mut shelf, &mut out, &mut err);
+    let exit = origin_alone(rt.alloc(), words, &mut shelf, &mut out, &mut err);
     ExitCode::from(exit.status())
 }
 
-/// The words of the command line without the program's name; None where the system doesn't give them.
-fn words_of(rt: &HostRuntime) -> Option<Vec<String>> {
-    let mut words = Vec::new(rt.alloc());
-    for word in env::args(rt).ok()?.skip(1) {
-        words.push(word).ok()?;
+/// The arguments of the program; None where the system doesn't give them.
+fn arguments(rt: &HostRuntime) -> Option<Vec<String>> {
+    env::args(rt).ok()?.collect(rt.alloc()).ok()
+}
+
+/// The words: the arguments after the program's name, which is the first of them.
+fn after_name(arguments: &[String]) -> &[String]
+    ensures { result.now ≡ drop 1 arguments.now }
+{
+    match arguments {
+        [_, words @ ..] => words,
+        [] => &[],
     }
-    Some(words)
 }
