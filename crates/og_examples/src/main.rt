@@ -5,6 +5,8 @@
 //! `NAME.out`, the text. It writes a line for each, and ends with status 1 unless all are as stored.
 #![tactic(auto)]
 
+ghost use Rattle.std.specs.Prelude.{◌≡◌, ◌≢◌, ◌↔◌};
+
 use og_cli::exit::Exit;
 use og_cli::outside::memory::MemorySink;
 use og_cli::outside::real::FileShelf;
@@ -53,23 +55,36 @@ fn check_all(rt: &HostRuntime) -> io::Result<bool> {
     Ok(all)
 }
 
-/// Compares an example's image with its source, and its run with its text.
+/// Reads an example's files, runs its image, and compares.
 fn check(rt: &HostRuntime, name: &str) -> io::Result<Finding> {
     let alloc = rt.alloc();
-    let image = format!(in alloc; "{name}.raw")?;
+    let file = format!(in alloc; "{name}.raw")?;
     let source = fs::read_to_string(rt, format!(in alloc; "{name}.hex")?.as_str())?;
-    if bytes_of(alloc, source.as_str())? != fs::read(rt, image.as_str())? {
-        return Ok(Finding::OtherBytes);
-    }
-    let mut out = MemorySink::make(alloc, 65_536, Vec::new(alloc));
-    if run(rt, image, &mut out)? != Exit::Quiet {
-        return Ok(Finding::OtherEnd);
-    }
+    let image = fs::read(rt, file.as_str())?;
     let text = fs::read(rt, format!(in alloc; "{name}.out")?.as_str())?;
-    if out.held() != text.as_slice() {
-        return Ok(Finding::OtherText);
+    let bytes = bytes_of(alloc, source.as_str())?;
+    let mut out = MemorySink::make(alloc, 65_536, Vec::new(alloc));
+    let exit = run(rt, file, &mut out)?;
+    Ok(compare(&bytes, &image, exit, out.held(), &text))
+}
+
+/// An example is as stored exactly where its image is that of its source, its run ends quiet, and what
+/// is printed is the stored text; else it is told which of these fails, the first in this order.
+fn compare(bytes: &[u8], image: &[u8], exit: Exit, printed: &[u8], text: &[u8]) -> Finding
+    ensures as_stored { result ≡ Finding.AsStored ↔ ((bytes.now ≡ image.now) × (exit ≡ Exit.Quiet) × (printed.now ≡ text.now)) }
+    ensures other_bytes { result ≡ Finding.OtherBytes ↔ (bytes.now ≢ image.now) }
+    ensures other_end { result ≡ Finding.OtherEnd ↔ ((bytes.now ≡ image.now) × (exit ≢ Exit.Quiet)) }
+    ensures other_text { result ≡ Finding.OtherText ↔ ((bytes.now ≡ image.now) × (exit ≡ Exit.Quiet) × (printed.now ≢ text.now)) }
+{
+    if bytes != image {
+        Finding::OtherBytes
+    } else if exit != Exit::Quiet {
+        Finding::OtherEnd
+    } else if printed != text {
+        Finding::OtherText
+    } else {
+        Finding::AsStored
     }
-    Ok(Finding::AsStored)
 }
 
 /// Runs an image.
