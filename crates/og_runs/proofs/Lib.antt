@@ -6,12 +6,12 @@ pub mod Forward
 pub mod Back
 pub mod RunLaws
 -- data and histories go together
+pub mod Placed
 pub mod Shown
 pub mod Whole
 pub mod Sorts
 pub mod Views
 pub mod Seats
 pub mod Young
-pub mod Alike
 pub mod Stated
 pub mod StatedLogs

@@ -12,44 +12,13 @@ use Rattle.og_runs.specs.declared.Msg.{Msg}
 use Rattle.og_runs.specs.declared.Event.{Event}
 use Rattle.og_runs.specs.declared.Seat.{Seat}
 use Rattle.og_runs.specs.Runs.{Outcome, Rules, History, Histories, posted, outcome_of, history_after, event_of, move_of, move_with, clock_after, choice_of, EachTaken, Consistent, has_id, same_id, sent_as, unless_taken, in_flight, step_with, step_taking, step, put, Run, IsNumbered, IsSound}
-use Rattle.og_runs.specs.World.{World, find, without, flight_after, seat_after, world_after, world_move_with, world_move, world_take, world_step, WorldRun, seat_of, Shows, Inside, Distinct}
+use Rattle.og_runs.specs.World.{World, find, flight_after, seat_after, world_after, world_move_with, world_move, world_take, world_step, WorldRun, seat_of, Shows, Inside, Distinct, placed_all, InPlace}
+use Rattle.og_runs.proofs.Placed.{or_else, same_id_equal, find_without, distinct_without, in_place_without, find_insert_all, distinct_insert_all, in_place_all}
 use Rattle.og_runs.proofs.Locals.{MoveMade, move_made}
 use Rattle.og_runs.proofs.Back.{IsTakeable, Stepped, stepped, has_id_push, sound_put, sent_stays_put, unless_taken_is, event_actor, sound_step}
 
 slice_get_set : {X : Type 0} → (xs : List X) (p q : ℕ) (x : X) → p < length xs → slice_get (slice_set xs p x) q ≡ cond (nat_eq p q) (Some x) (slice_get xs q)
 slice_get_set xs p q x lt = grind (arith, nat_tests, common_steps, gets)
-
-abbrev pub or_else : {X : Type 0} → Option X → Option X → Option X
-or_else None y = y
-or_else (Some x) y = Some x
-
-pub same_id_equal : (i j : MsgId) → same_id i j ≡ true → i ≡ j
-same_id_equal i j e = let a : i.sender ≡ j.sender = grind (arith, nat_tests) in let b : i.seq ≡ j.seq = grind (arith, nat_tests) in ap₂ (λ (x y : ℕ). record { sender = x; seq = y }) a b
-
-pub same_self : (i : MsgId) → same_id i i ≡ true
-same_self i = grind (arith, nat_tests)
-
-find_append : {K : Type 0} → (i : MsgId) (xs ys : List (Msg K)) → find i (xs ++ ys) ≡ or_else (find i xs) (find i ys)
-find_append i [] ys = refl
-find_append {K} i (x ∷ xs) ys = at (same_id i x.id) (find_append i xs ys)
-  where
-    at : (w : Bool) → find i (xs ++ ys) ≡ or_else (find i xs) (find i ys) → cond w (Some x) (find i (xs ++ ys)) ≡ or_else (cond w (Some x) (find i xs)) (find i ys)
-    at true h = refl
-    at false h = h
-
-pub find_without : {K : Type 0} → (i j : MsgId) (ms : List (Msg K)) → find j (without i ms) ≡ cond (same_id j i) None (find j ms)
-find_without {K} i j [] = at (same_id j i)
-  where
-    at : (w : Bool) → find j (without {K = K} i []) ≡ cond w None (find {K = K} j [])
-    at true = refl
-    at false = refl
-find_without {K} i j (m ∷ ms) = at (same_id i m.id) refl (same_id j i) refl (find_without i j ms)
-  where
-    at : (w : Bool) → same_id i m.id ≡ w → (x : Bool) → same_id j i ≡ x → find j (without i ms) ≡ cond x None (find j ms) → find j (cond w (without i ms) (m ∷ without i ms)) ≡ cond x None (cond (same_id j m.id) (Some m) (find j ms))
-    at true e true f h = h
-    at true e false f h = let ne : same_id j m.id ≡ false = subst (λ (z : MsgId). same_id j z ≡ false) (same_id_equal i m.id e) f in rw ne h
-    at false e true f h = let ne : same_id j m.id ≡ false = subst (λ (z : MsgId). same_id z m.id ≡ false) (sym (same_id_equal j i f)) e in rw ne h
-    at false e false f h = rw h refl
 
 -- the posted messages are found by their numbers
 find_posted : {K : Type 0} → (a c k : ℕ) (ls : List (Letter K)) (j : MsgId) (d : ℕ) → j.sender ≡ a → j.seq ≡ k + d → find j (posted a c k ls) ≡ slice_get (posted a c k ls) d
@@ -194,36 +163,17 @@ length_posted : {K : Type 0} → (a c k : ℕ) (ls : List (Letter K)) → length
 length_posted a c k [] = refl
 length_posted a c k (l ∷ ls) = ap (λ (z : ℕ). suc z) (length_posted a c (suc k) ls)
 
--- distinct ids
-pub distinct_without : {K : Type 0} → (i : MsgId) (ms : List (Msg K)) → Distinct ms → Distinct (without i ms)
-distinct_without i [] h = tt
-distinct_without {K} i (m ∷ ms) h = at (same_id i m.id) (distinct_without i ms h.1)
-  where
-    none : (w : Bool) → cond w None (find m.id ms) ≡ None
-    none true = refl
-    none false = h.0
-
-    at : (w : Bool) → Distinct (without i ms) → Distinct (cond w (without i ms) (m ∷ without i ms))
-    at true k = k
-    at false k = (find_without i m.id ms ∙ none (same_id m.id i), k)
-
 distinct_flight_after : {K : Type 0} → (v : Option (Msg K)) (ms : List (Msg K)) → Distinct ms → Distinct (flight_after v ms)
 distinct_flight_after None ms h = h
 distinct_flight_after (Some m) ms h = distinct_without m.id ms h
 
+in_place_flight_after : {K : Type 0} → (v : Option (Msg K)) (ms : List (Msg K)) → InPlace ms → InPlace (flight_after v ms)
+in_place_flight_after None ms h = h
+in_place_flight_after (Some m) ms h = in_place_without m.id ms h
+
 distinct_posted : {K : Type 0} → (a c k : ℕ) (ls : List (Letter K)) → Distinct (posted a c k ls)
 distinct_posted a c k [] = tt
 distinct_posted a c k (l ∷ ls) = (find_posted_none a c (suc k) ls (record { sender = a; seq = k }) (λ e. omega arith), distinct_posted a c (suc k) ls)
-
-distinct_append : {K : Type 0} → (xs ys : List (Msg K)) → Distinct xs → Distinct ys → ((j : MsgId) (m : Msg K) → find j xs ≡ Some m → find j ys ≡ None) → Distinct (xs ++ ys)
-distinct_append [] ys h k apart = k
-distinct_append {K} (x ∷ xs) ys h k apart =
-    let here : find x.id (x ∷ xs) ≡ Some x = ap (λ (w : Bool). cond w (Some x) (find x.id xs)) (same_self x.id) in
-    (find_append x.id xs ys ∙ (ap (λ (o : Option (Msg K)). or_else o (find x.id ys)) h.0 ∙ apart x.id x here), distinct_append xs ys h.1 k (λ j m e. tail j m e (same_id j x.id) refl))
-  where
-    tail : (j : MsgId) (m : Msg K) → find j xs ≡ Some m → (w : Bool) → same_id j x.id ≡ w → find j ys ≡ None
-    tail j m e true is = apart j x (ap (λ (w : Bool). cond w (Some x) (find j xs)) is)
-    tail j m e false is = apart j m (ap (λ (w : Bool). cond w (Some x) (find j xs)) is ∙ e)
 
 -- what is in flight was sent, so no posted message has its id
 apart_posted : {A K : Type 0} → (s : Histories A K) (a c : ℕ) (v : Option (Msg K)) (ls : List (Letter K)) (j : MsgId) (m : Msg K) → cond (is_of j v) None (in_flight s j) ≡ Some m → find j (posted a c (length (s a).sent) ls) ≡ None
@@ -250,7 +200,7 @@ taken_stays {A} {K} {N} r s c u e i m sound h is none =
 -- after one move of a seat and of its history, the world shows the histories
 pub shows_after : {A K N : Type 0} → (r : Rules A K N) (w : World A K) (s : Histories A K) (a : ℕ) (v : Option (Msg K)) (p : History A K) (e : Event N) → (x : MoveMade r a (s a) v p e) → IsTakeable s a v → IsSound s → Shows w s →
     a < length w.seats → Shows (world_after w a (seat_of (s a)) v x.0) (put s a p)
-shows_after {A} {K} {N} r w s a v p e x f sound sh lt = record { seat = λ b y is. seat b (nat_eq a b) refl y (sym (slice_get_set w.seats a b (seat_after (seat_of (s a)) v x.0) lt) ∙ is); flight = flight; distinct = distinct }
+shows_after {A} {K} {N} r w s a v p e x f sound sh lt = record { seat = λ b y is. seat b (nat_eq a b) refl y (sym (slice_get_set w.seats a b (seat_after (seat_of (s a)) v x.0) lt) ∙ is); flight = flight; distinct = distinct; in_place = in_place }
   where
     here : seat_of p ≡ seat_after (seat_of (s a)) v x.0
     here =
@@ -265,14 +215,22 @@ shows_after {A} {K} {N} r w s a v p e x f sound sh lt = record { seat = λ b y i
     ps : List (Msg K)
     ps = posted a (clock_after (s a).clock v) (length (s a).sent) x.0.letters
 
-    distinct : Distinct (flight_after v w.flight ++ ps)
-    distinct = distinct_append (flight_after v w.flight) ps (distinct_flight_after v w.flight sh.distinct) (distinct_posted a (clock_after (s a).clock v) (length (s a).sent) x.0.letters)
-        (λ j m e. apart_posted s a (clock_after (s a).clock v) v x.0.letters j m (sym (find_flight_after v j w.flight ∙ ap (λ (o : Option (Msg K)). cond (is_of j v) None o) (sh.flight j)) ∙ e))
+    apart : (j : MsgId) (m : Msg K) → find j (flight_after v w.flight) ≡ Some m → find j ps ≡ None
+    apart j m e = apart_posted s a (clock_after (s a).clock v) v x.0.letters j m (sym (find_flight_after v j w.flight ∙ ap (λ (o : Option (Msg K)). cond (is_of j v) None o) (sh.flight j)) ∙ e)
+
+    ids : Distinct ps
+    ids = distinct_posted a (clock_after (s a).clock v) (length (s a).sent) x.0.letters
+
+    distinct : Distinct (placed_all (flight_after v w.flight) ps)
+    distinct = distinct_insert_all (flight_after v w.flight) ps (distinct_flight_after v w.flight sh.distinct) ids apart
+
+    in_place : InPlace (placed_all (flight_after v w.flight) ps)
+    in_place = in_place_all (flight_after v w.flight) ps (in_place_flight_after v w.flight sh.in_place) ids apart
 
     flight : (j : MsgId) → find j (world_after w a (seat_of (s a)) v x.0).flight ≡ in_flight (put s a p) j
     flight j =
         let ps : List (Msg K) = posted a (clock_after (s a).clock v) (length (s a).sent) x.0.letters in
-        find_append j (flight_after v w.flight) ps ∙ (ap (λ (o : Option (Msg K)). or_else o (find j ps)) (find_flight_after v j w.flight ∙ ap (λ (o : Option (Msg K)). cond (is_of j v) None o) (sh.flight j)) ∙ sym (in_flight_after r s a v p e x f sound j))
+        find_insert_all j (flight_after v w.flight) ps ids apart ∙ (ap (λ (o : Option (Msg K)). or_else o (find j ps)) (find_flight_after v j w.flight ∙ ap (λ (o : Option (Msg K)). cond (is_of j v) None o) (sh.flight j)) ∙ sym (in_flight_after r s a v p e x f sound j))
 
 pub slice_get_some : {X : Type 0} → (xs : List X) (k : ℕ) → k < length xs → (x : X) × (slice_get xs k ≡ Some x)
 slice_get_some [] k lt = absurd (omega arith)

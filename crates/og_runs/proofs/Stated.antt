@@ -9,12 +9,13 @@ use Rattle.og_runs.specs.declared.Msg.{Msg}
 use Rattle.og_runs.specs.declared.Event.{Event}
 use Rattle.og_runs.specs.declared.Seat.{Seat}
 use Rattle.og_runs.specs.Runs.{Rules, Histories, own_events, start, Strict, IsSound, Run, step, sent_as, in_flight, put, posted, clock_after, choice_of}
-use Rattle.og_runs.specs.World.{World, find, world_step, WorldRun, Distinct, Shows}
+use Rattle.og_runs.specs.World.{World, find, world_step, WorldRun, Distinct, Shows, InPlace}
 use Rattle.og_runs.specs.Laws.{IsStart, RunsFrom, NamesStay, ClocksWithin}
 use Rattle.og_runs.proofs.Locals.{MoveMade, move_made}
 use Rattle.og_runs.proofs.Back.{IsTakeable, Stepped, stepped, SentStays, sound_step, unless_taken_is, locals}
 use Rattle.og_runs.proofs.RunLaws.{ClocksRiseStrictly, log_rises, sent_stays_step, start_sound}
-use Rattle.og_runs.proofs.Shown.{ShownStep, shown_step, ShownRun, shown_run, in_flight_after, find_posted_none, slice_get_below, slice_get_some, taken_stays, same_self, or_else, is_of}
+use Rattle.og_runs.proofs.Shown.{ShownStep, shown_step, ShownRun, shown_run, in_flight_after, find_posted_none, slice_get_below, slice_get_some, taken_stays, is_of}
+use Rattle.og_runs.proofs.Placed.{or_else, same_self}
 use Rattle.og_runs.proofs.Young.{ClocksBelow, clock_after_below, clocks_below_step, clocks_below_world}
 
 pub start_shows : {A K : Type 0} → (f : ℕ → A) (w : World A K) → IsStart f w → Shows w (start {K = K} f)
@@ -22,6 +23,7 @@ start_shows {A} {K} f w h = record {
   seat = λ a x e. sym (h.seat a x e);
   flight = λ i. ap (λ (ms : List (Msg K)). find i ms) h.flight;
   distinct = subst (λ (ms : List (Msg K)). Distinct ms) (sym h.flight) tt;
+  in_place = subst (λ (ms : List (Msg K)). InPlace ms) (sym h.flight) tt;
 }
 
 -- a run from a start, with the histories that its end shows

@@ -1,7 +1,6 @@
 -- The laws of logs as they are promised: from logs to a run, and from a run to logs.
 use Rattle.std.proofs.Common.{◌≡◌, ℕ, zero, suc, ◌+◌, ◌<◌, ◌≤◌, Bool, true, false, cond, nat_eq, nat_lt, arith, refl, sym, subst, List, [], ◌∷◌, length, slice_get, Option, None, Some, ap}
 use Rattle.std.proofs.Math.Path.{◌∙◌}
-use Rattle.std.specs.List.Sorted.{IsPermutation}
 use Rattle.std.proofs.lemmas.Bool.Decides.{nat_tests}
 use Rattle.og_runs.specs.declared.MsgId.{MsgId}
 use Rattle.og_runs.specs.declared.Choice.{Choice}
@@ -93,9 +92,9 @@ logs_run {A} {K} {N} r f w vs fs begin size h all sort = (d.world, d.runs, recor
         left (Some m) = ap (λ (ms : List (Msg K)). cond (has_id i ms) None (Some m)) (lists m.to).1
 
 pub sorted_events_run : {A K N : Type 0} → (r : Rules A K N) (f : ℕ → A) (w : World A K) (cs : List Choice) (u : World A K) (es fs : List (Event N)) → RunsFrom r f w cs u es → IsSorted es fs →
-    (v : World A K) × WorldRun r w (choices fs) v fs × (v.seats ≡ u.seats) × IsPermutation v.flight u.flight × Strict fs
+    (v : World A K) × WorldRun r w (choices fs) v fs × (v.seats ≡ u.seats) × (v.flight ≡ u.flight) × Strict fs
 sorted_events_run {A} {K} {N} r f w cs u es fs h sort =
-    let x : (v : World A K) × WorldRun r w (choices fs) v fs × (v.seats ≡ u.seats) × IsPermutation v.flight u.flight = sorted_run r cs w u (start f) es fs (start_shows f w h.start) (start_sound f) h.run sort in
+    let x : (v : World A K) × WorldRun r w (choices fs) v fs × (v.seats ≡ u.seats) × (v.flight ≡ u.flight) = sorted_run r cs w u (start f) es fs (start_shows f w h.start) (start_sound f) h.run sort in
     (x.0, x.1, x.2, x.3, run_strict r (choices fs) w x.0 (start f) fs (start_shows f w h.start) (start_sound f) x.1 sort.ordered)
 
 -- ------------------------------------------------------------------------------ from a run to logs

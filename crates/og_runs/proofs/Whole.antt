@@ -13,8 +13,7 @@ use Rattle.og_runs.proofs.RunLaws.{ClocksRiseStrictly, log_rises}
 use Rattle.og_runs.proofs.Sorts.{logs_stay, rising_ordered, strict_sorted, strictly_rises_on}
 use Rattle.og_runs.proofs.Forward.{merged}
 use Rattle.og_runs.proofs.Back.{locals, resorted, event_actor}
-use Rattle.std.specs.List.Sorted.{IsPermutation}
-use Rattle.og_runs.proofs.Alike.{same_messages}
+use Rattle.og_runs.proofs.Placed.{same_flight}
 use Rattle.og_runs.proofs.Shown.{ShownRun, shown_run, DataRun, data_run, slice_get_below, slice_get_some}
 
 -- logs in an order of rising clocks are a run of the world
@@ -62,11 +61,11 @@ inside_same n es fs same h = inside_from_own n fs (λ a le. same a ∙ inside_no
 
 -- the events of a run of a world, sorted, are a run of the world, which ends with the same seats and the same messages in flight
 pub resorted_data : {A K N : Type 0} → (r : Rules A K N) (cs : List Choice) (w u : World A K) (s : Histories A K) (es fs : List (Event N)) (c : ℕ) → Shows w s → IsSound s → WorldRun r w cs u es →
-    ((a : ℕ) → own_events a fs ≡ own_events a es) → ClocksRise c fs → (v : World A K) × WorldRun r w (choices fs) v fs × (v.seats ≡ u.seats) × IsPermutation v.flight u.flight
+    ((a : ℕ) → own_events a fs ≡ own_events a es) → ClocksRise c fs → (v : World A K) × WorldRun r w (choices fs) v fs × (v.seats ≡ u.seats) × (v.flight ≡ u.flight)
 resorted_data {A} {K} {N} r cs w u s es fs c sh sound run same up =
     let x : ShownRun r w s cs u es = shown_run r cs w s u es sh sound run in
     let y : DataRun r w (choices fs) x.state fs = data_run r (choices fs) w s x.state fs sh sound (inside_same (length w.seats) es fs same x.inside) (resorted r cs s x.state es fs c sound x.runs same up) in
-    (y.world, y.runs, same_seats y.world u x.state y.shows x.shows (y.size ∙ sym x.size), same_messages y.world.flight u.flight y.shows.distinct x.shows.distinct (λ i. y.shows.flight i ∙ sym (x.shows.flight i)))
+    (y.world, y.runs, same_seats y.world u x.state y.shows x.shows (y.size ∙ sym x.size), same_flight y.world.flight u.flight y.shows.distinct x.shows.distinct y.shows.in_place x.shows.in_place (λ i. y.shows.flight i ∙ sym (x.shows.flight i)))
 
 -- ------------------------------------------------------------------------------ in the order of stamps
 
@@ -141,7 +140,7 @@ sorted_logs {A} {K} {N} r w s t ls fs sh sound size logs all sort =
 
 -- the same for the events of a run
 pub sorted_run : {A K N : Type 0} → (r : Rules A K N) (cs : List Choice) (w u : World A K) (s : Histories A K) (es fs : List (Event N)) → Shows w s → IsSound s → WorldRun r w cs u es → IsSorted es fs →
-    (v : World A K) × WorldRun r w (choices fs) v fs × (v.seats ≡ u.seats) × IsPermutation v.flight u.flight
+    (v : World A K) × WorldRun r w (choices fs) v fs × (v.seats ≡ u.seats) × (v.flight ≡ u.flight)
 sorted_run {A} {K} {N} r cs w u s es fs sh sound run sort =
     let x : ShownRun r w s cs u es = shown_run r cs w s u es sh sound run in
     let same : (a : ℕ) → own_events a fs ≡ own_events a es = logs_stay same_stamp (λ x e. refl) es fs (rising_ordered fs sort.ordered) (λ a. strictly_rises (s a).clock (own_events a es) (log_rises r a (s a) (own_events a es) (x.state a) (locals r cs s x.state es sound x.runs a))) sort.stable in

@@ -1,7 +1,6 @@
 -- The laws of runs, over all protocols: what the functions of `src/laws.rt` promise.
 use Rattle.std.specs.Prelude.{◌≡◌, ℕ, ◌≤◌, ◌<◌, List, ◌++◌, length, slice_get, [], cond, All}
 use Rattle.std.proofs.Common.{Option, None, Some}
-use Rattle.std.specs.List.Sorted.{IsPermutation}
 use Rattle.og_runs.specs.declared.MsgId.{MsgId}
 use Rattle.og_runs.specs.declared.Choice.{Choice}
 use Rattle.og_runs.specs.declared.Choice.TheVariants.{Take}
@@ -95,7 +94,7 @@ LogsAreARun A K N = (r : Rules A K N) (f : ℕ → A) (w : World A K) (vs : List
 abbrev pub SortedEventsAreARun : (A K N : Type 0) → Type 0
 SortedEventsAreARun A K N = (r : Rules A K N) (f : ℕ → A) (w : World A K) (cs : List Choice) (u : World A K) (es fs : List (Event N)) →
     RunsFrom r f w cs u es → IsSorted es fs →
-    (v : World A K) × WorldRun r w (choices fs) v fs × (v.seats ≡ u.seats) × IsPermutation v.flight u.flight × Strict fs
+    (v : World A K) × WorldRun r w (choices fs) v fs × (v.seats ≡ u.seats) × (v.flight ≡ u.flight) × Strict fs
 
 -- a run names its choices, and each actor's events in it are a log of that actor: so its logs are local
 -- and consistent

@@ -1,5 +1,5 @@
 -- The machine as contracts see it: a seat for each actor and the messages in flight.
-use Rattle.std.specs.Prelude.{◌≡◌, ℕ, ◌+◌, ◌<◌, nat_eq, List, [], ◌∷◌, ◌++◌, length, slice_get, slice_set, cond}
+use Rattle.std.specs.Prelude.{◌≡◌, ℕ, ◌+◌, ◌<◌, Bool, true, nat_eq, nat_lt, List, [], ◌∷◌, length, slice_get, slice_set, cond}
 use Rattle.std.proofs.Common.{Option, None, Some}
 use Rattle.og_runs.specs.declared.MsgId.{MsgId}
 use Rattle.og_runs.specs.declared.Choice.{Choice}
@@ -10,7 +10,7 @@ use Rattle.og_runs.specs.declared.Seat.{Seat}
 use Rattle.og_runs.specs.declared.Log.{Log}
 use Rattle.og_runs.specs.Runs.{Outcome, Rules, History, Histories, posted, outcome_of, event_of, clock_after, same_id, in_flight}
 
--- actor a sits at seat a; messages in flight stand in no order that matters
+-- actor a sits at seat a; messages in flight stand by receiver, then sender, then number
 pub record World (A K : Type 0) : Type 0 where
   pub seats : List (Seat A)
   pub flight : List (Msg K)
@@ -25,6 +25,29 @@ abbrev pub without : {K : Type 0} → MsgId → List (Msg K) → List (Msg K)
 without i [] = []
 without i (m ∷ ms) = cond (same_id i m.id) (without i ms) (m ∷ without i ms)
 
+-- messages in flight stand by receiver, then sender, then number
+abbrev pub precedes : {K : Type 0} → Msg K → Msg K → Bool
+precedes m n = cond (nat_eq m.to n.to) (cond (nat_eq m.id.sender n.id.sender) (nat_lt m.id.seq n.id.seq) (nat_lt m.id.sender n.id.sender)) (nat_lt m.to n.to)
+
+-- the list with m at its place: behind all at the front that precede it
+abbrev pub placed : {K : Type 0} → Msg K → List (Msg K) → List (Msg K)
+placed m [] = m ∷ []
+placed m (x ∷ xs) = cond (precedes x m) (x ∷ placed m xs) (m ∷ x ∷ xs)
+
+-- the list with these at their places, one after another
+abbrev pub placed_all : {K : Type 0} → List (Msg K) → List (Msg K) → List (Msg K)
+placed_all ms [] = ms
+placed_all ms (n ∷ ns) = placed_all (placed n ms) ns
+
+abbrev pub PrecedesAll : {K : Type 0} → Msg K → List (Msg K) → Type 0
+PrecedesAll m [] = Unit {0}
+PrecedesAll m (x ∷ xs) = (precedes m x ≡ true) × PrecedesAll m xs
+
+-- each message precedes all behind it
+abbrev pub InPlace : {K : Type 0} → List (Msg K) → Type 0
+InPlace [] = Unit {0}
+InPlace (m ∷ ms) = PrecedesAll m ms × InPlace ms
+
 -- a move is an act (None) or the take of a message (Some), which leaves the flight
 abbrev pub flight_after : {K : Type 0} → Option (Msg K) → List (Msg K) → List (Msg K)
 flight_after None ms = ms
@@ -36,7 +59,7 @@ seat_after x v o = record { local = o.local; clock = clock_after x.clock v; next
 
 -- the letters become messages with the actor's next numbers, in their order, and the event's stamp
 abbrev pub world_after : {A K N : Type 0} → World A K → ℕ → Seat A → Option (Msg K) → Outcome A K N → World A K
-world_after w a x v o = record { seats = slice_set w.seats a (seat_after x v o); flight = flight_after v w.flight ++ posted a (clock_after x.clock v) x.next o.letters }
+world_after w a x v o = record { seats = slice_set w.seats a (seat_after x v o); flight = placed_all (flight_after v w.flight) (posted a (clock_after x.clock v) x.next o.letters) }
 
 abbrev pub world_move_with : {A K N : Type 0} → World A K → ℕ → Seat A → Option (Msg K) → Option (Outcome A K N) → Option (World A K × Event N)
 world_move_with w a x v None = None
@@ -75,6 +98,7 @@ pub record Shows {A K : Type 0} (w : World A K) (s : Histories A K) : Type 0 whe
   pub seat : (a : ℕ) (x : Seat A) → slice_get w.seats a ≡ Some x → seat_of (s a) ≡ x
   pub flight : (i : MsgId) → find i w.flight ≡ in_flight s i
   pub distinct : Distinct w.flight
+  pub in_place : InPlace w.flight
 
 -- all events are of actors below n
 abbrev pub Inside : {N : Type 0} → ℕ → List (Event N) → Type 0
