@@ -50,4 +50,4 @@ module _ (bytes : List ℕ) (s : RunSettings) (es : List (Event Note)) (old new 
 pub refused_ends : (job : Option JobState) (fault : WordsFault) (shelf : ShelfState) (old : SinkState) → (fault ≡ words.Words → job ≡ None) → (job ≡ None → fault ≡ words.Words) → CommandEnds job shelf shelf old old (refused_of fault)
 refused_ends job words.Words shelf old only all = rw (only refl) (refl, refl, refl)
 refused_ends None words.Memory shelf old only all = let e : words.Memory ≡ words.Words = all refl in absurd (cc)
-refused_ends (Some job) words.Memory shelf old only all = inl refl
+refused_ends (Some job) words.Memory shelf old only all = (refl, inl refl)

@@ -48,10 +48,10 @@ ends_unhindered None shelf after old new answer ends = tt
 ends_unhindered (Some job) shelf after old new exit.Quiet ends = λ u. inl refl
 ends_unhindered (Some job) shelf after old new exit.Limit ends = λ u. inr (inl refl)
 ends_unhindered (Some job) shelf after old new exit.Memory ends = λ u. inr (inr refl)
-ends_unhindered (Some job) shelf after old new exit.Words (built, (bytes, file, none)) = elim none [ ]
+ends_unhindered (Some job) shelf after old new exit.Words (built, kept, (bytes, file, none)) = elim none [ ]
 ends_unhindered (Some job) shelf after old new exit.NotBuilt ends = λ u. let yes : is_built job ≡ true = u.built in let no : is_built job ≡ false = ends.0 in absurd (cc)
 ends_unhindered (Some job) shelf after old new exit.ShelfFault ends = λ u. no_name job.name shelf.failed after.failed u.read ends.1
 ends_unhindered (Some job) shelf after old new (exit.Image fault.TooLong) ends = λ u. no_long_file job shelf.files u.image ends.1
-ends_unhindered (Some job) shelf after old new (exit.Image fault.Raw) (built, (bytes, file, (wrong, same))) = λ u. no_fault job shelf.files bytes fault.Raw u.image file wrong
-ends_unhindered (Some job) shelf after old new (exit.Image (fault.NoFrames need have)) (built, (bytes, file, (wrong, same))) = λ u. no_fault job shelf.files bytes (fault.NoFrames need have) u.image file wrong
-ends_unhindered (Some job) shelf after old new exit.SinkFault (built, (bytes, file, (cut, rises))) = λ u. no_rise old.faults new.faults u.written rises
+ends_unhindered (Some job) shelf after old new (exit.Image fault.Raw) (built, kept, (bytes, file, (wrong, same))) = λ u. no_fault job shelf.files bytes fault.Raw u.image file wrong
+ends_unhindered (Some job) shelf after old new (exit.Image (fault.NoFrames need have)) (built, kept, (bytes, file, (wrong, same))) = λ u. no_fault job shelf.files bytes (fault.NoFrames need have) u.image file wrong
+ends_unhindered (Some job) shelf after old new exit.SinkFault (built, kept, (bytes, file, (cut, rises))) = λ u. no_rise old.faults new.faults u.written rises

@@ -134,8 +134,8 @@ abbrev pub JobEnds : JobState → ShelfState → ShelfState → SinkState → Si
 JobEnds job shelf after old new exit.NotBuilt = (is_built job ≡ false) × (new ≡ old) × (after ≡ shelf)
 JobEnds job shelf after old new exit.ShelfFault = (is_built job ≡ true) × AddsName job.name shelf.failed after.failed × (new ≡ old)
 JobEnds job shelf after old new (exit.Image fault.TooLong) = (is_built job ≡ true) × HasLongFile shelf.files job.name 67108864 × (new ≡ old)
-JobEnds job shelf after old new exit.Memory = (new ≡ old) ⊎ ((is_built job ≡ true) × ReadAndRun job shelf old new exit.Memory)
-JobEnds job shelf after old new other = (is_built job ≡ true) × ReadAndRun job shelf old new other
+JobEnds job shelf after old new exit.Memory = (after.failed ≡ shelf.failed) × ((new ≡ old) ⊎ ((is_built job ≡ true) × ReadAndRun job shelf old new exit.Memory))
+JobEnds job shelf after old new other = (is_built job ≡ true) × (after.failed ≡ shelf.failed) × ReadAndRun job shelf old new other
 
 -- how the command ends: words that ask for no job are answered just so, and nothing is begun
 abbrev pub CommandEnds : Option JobState → ShelfState → ShelfState → SinkState → SinkState → Exit → Type 0

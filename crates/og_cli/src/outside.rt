@@ -45,7 +45,8 @@ pub trait Shelf {
         ensures bytes { IfOk result (λ bytes. HasFile (seen self.old).files name.now bytes.items) }
         ensures within { IfOk result (λ bytes. vec_len bytes ≤ limit) }
         ensures added { result ≡ Err ShelfFault.Failed → AddsName name.now (seen self.old).failed (seen self.new).failed }
-        ensures too_long { result ≡ Err ShelfFault.TooLong → HasLongFile (seen self.old).files name.now limit };
+        ensures too_long { result ≡ Err ShelfFault.TooLong → HasLongFile (seen self.old).files name.now limit }
+        ensures kept { result ≢ Err ShelfFault.Failed → (seen self.new).failed ≡ (seen self.old).failed };
 }
 
 impl From<AllocError> for ShelfFault {

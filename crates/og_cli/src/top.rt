@@ -2,6 +2,7 @@
 
 ghost use Rattle.std.specs.Prelude.{◌≡◌, ◌≤◌, ℕ, [], ◌+◌, ◌*◌, ◌^◌, ◌⊎◌, length, IfOk, IfErr, OnOk, OnErr, true, false, string_bytes};
 ghost use Rattle.rv_hart.specs.Layout.{pages_of};
+ghost use Rattle.rv_hart.specs.Raw.{is_out};
 ghost use Rattle.og_core.specs.Machine.{start_of};
 ghost use Rattle.og_cli.specs.Outside.{appended, AppendsPrefix, Rises, parts_text, texts};
 ghost use Rattle.og_cli.specs.Simulate.{IsSimulated};
@@ -57,7 +58,8 @@ fn run_bytes<K: Sink>(
 ) -> Exit
     requires one { settings.now.nodes ≡ 1 }
     requires within { length bytes.now ≤ 67108864 }
-    ensures { RunEnds bytes.now (run_settings settings.now events) (K.seen out.old) (K.seen out.new) result }
+    ensures ends { RunEnds bytes.now (run_settings settings.now events) (K.seen out.old) (K.seen out.new) result }
+    ensures raw { is_out bytes.now ≡ true → result ≡ Exit.Image ImageFault.Raw }
 {
     let elf = match read_raw(alloc, bytes) {
         Ok(elf) => elf,
@@ -85,7 +87,8 @@ fn run_bytes<K: Sink>(
 fn perform<F: Shelf, K: Sink>(alloc: Global, job: &Job, shelf: &mut F, out: &mut K) -> Exit
     requires nodes { (1 ≤ job.now.nodes) × (job.now.nodes ≤ 16) }
     requires instructions { job.now.instructions ≤ 1000000 }
-    ensures { JobEnds (job_seen job.now) (F.seen shelf.old) (F.seen shelf.new) (K.seen out.old) (K.seen out.new) result }
+    ensures ends { JobEnds (job_seen job.now) (F.seen shelf.old) (F.seen shelf.new) (K.seen out.old) (K.seen out.new) result }
+    ensures built { is_built (job_seen job.now) ≡ false → result ≡ Exit.NotBuilt }
 {
     if !job.raw || job.nodes != 1 {
         return Exit::NotBuilt;

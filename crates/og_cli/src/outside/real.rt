@@ -138,7 +138,15 @@ fn write_some<W: Write>(writer: &mut W, piece: &[u8]) -> io::Result<usize>
 impl<W: Write + Drop> Sink for StreamSink<W> {
     ghost seen = { λ s. record { held = None; faults = s.faults; wants = 0 } };
 
-    fn write(&mut self, piece: &[u8]) -> Result<usize, SinkFault> {
+    fn write(&mut self, piece: &[u8]) -> Result<usize, SinkFault>
+        ensures empty { piece.now ≡ [] → (result ≡ Ok 0) × (self.new ≡ self.old) }
+        ensures taken { IfOk result (λ n. n ≤ length piece.now) }
+        ensures some { piece.now ≢ [] → IfOk result (λ n. 1 ≤ n) }
+        ensures fault { result ≡ Err SinkFault.Failed → Rises self.old.faults self.new.faults }
+        ensures no_want { result ≢ Err SinkFault.Memory }
+        ensures faults_stay { self.old.faults ≤ self.new.faults }
+        ensures shown { WriteAppends (W.contents self.old.writer) (W.contents self.new.writer) result piece.now }
+    {
         if piece.is_empty() {
             return Ok(0);
         }

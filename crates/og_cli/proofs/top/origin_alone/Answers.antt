@@ -32,7 +32,7 @@ returns-clause-unhindered g c =
     let old : SinkState = g.K.Sink.seen c.args.out.now in
     let new : SinkState = g.K.Sink.seen c.perform-exit.new.out in
     subst (λ (asked : Option JobState). EndsUnhindered asked shelf after old new c.perform-exit.result) (sym c.in-Ok.ensures.job)
-    (ends_unhindered (Some (job_seen c.in-Ok.job)) shelf after old new c.perform-exit.result c.perform-exit.ensures)
+    (ends_unhindered (Some (job_seen c.in-Ok.job)) shelf after old new c.perform-exit.result c.perform-exit.ensures.ends)
 
 pub returns-clause-told : goal.returns-clause-told
 returns-clause-told g c =

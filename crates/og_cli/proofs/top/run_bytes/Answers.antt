@@ -8,8 +8,8 @@ use Rattle.og_cli.specs.Exit.{image_of, image_fault}
 use Rattle.og_cli.proofs.Runs.{no_fault, run_ends}
 use Rattle.og_cli.proofs.top.run_bytes.Goals as goal
 
-pub returns-in-Ok-simulate : goal.returns-in-Ok-simulate
-returns-in-Ok-simulate g c =
+pub returns-in-Ok-simulate-clause-ends : goal.returns-in-Ok-simulate-clause-ends
+returns-in-Ok-simulate-clause-ends g c =
     let nodes : ℕ = c.args.settings.now.nodes in
     let image_is : c.in-Ok-make.image ≡ image_of c.args.bytes.now c.args.settings.now.nodes = c.in-Ok-make.ensures.made ∙ ap (λ (e : Elf). record { entry = e.entry; nodes = c.args.settings.now.nodes; segments = e.segments }) c.in-Ok.ensures.read in
     let room : length (pages_of (image_of c.args.bytes.now c.args.settings.now.nodes)) ≤ c.args.settings.now.nodes * c.args.settings.now.frames = subst (λ (i : ImageState). length (pages_of i) ≤ c.args.settings.now.nodes * c.args.settings.now.frames) image_is c.in-Ok-start.ensures.room in
