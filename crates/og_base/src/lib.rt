@@ -91,8 +91,6 @@ pub enum NotEnabled {
     NothingToDo,
     /// No such message is in flight to the actor.
     NoMessage,
-    /// Want of memory.
-    Memory,
 }
 
 /// The settings of a run, each in its range.

@@ -14,29 +14,30 @@ use Rattle.og_cli.specs.declared.words.WordsFault.{WordsFault}
 use Rattle.og_cli.specs.declared.words.WordsFault.TheVariants as words
 use Rattle.og_cli.specs.Words.{JobState}
 use Rattle.og_cli.specs.Outside.{ShelfState, SinkState}
-use Rattle.og_cli.specs.Exit.{CommandEnds, refused_of, RunSettings, RunEnds, IsRunText, PrintEnds, image_of, image_fault}
+use Rattle.og_base.specs.Settings.{SettingsState}
+use Rattle.og_cli.specs.Exit.{CommandEnds, refused_of, RunEnds, IsRunText, PrintEnds, image_of, image_fault}
 
 -- an image with few bytes, that is a raw program, and for which there are frames has no fault
-pub no_fault : (bytes : List ℕ) (nodes frames : ℕ) → length bytes ≤ 67108864 → is_out bytes ≡ false → length (pages_of (image_of bytes nodes)) ≤ nodes * frames → image_fault bytes nodes frames ≡ None
-no_fault bytes nodes frames short sound room =
+pub no_fault : (bytes : List ℕ) (settings : SettingsState) → length bytes ≤ 67108864 → is_out bytes ≡ false → length (pages_of (image_of bytes settings.nodes)) ≤ settings.nodes * settings.frames → image_fault bytes settings ≡ None
+no_fault bytes settings short sound room =
     let a : nat_lt 67108864 (length bytes) ≡ false = grind (arith, nat_tests) in
-    let b : nat_lt (nodes * frames) (length (pages_of (image_of bytes nodes))) ≡ false = grind (arith, nat_tests) in
+    let b : nat_lt (settings.nodes * settings.frames) (length (pages_of (image_of bytes settings.nodes))) ≡ false = grind (arith, nat_tests) in
     rw (a, sound, b) refl
 
-module _ (bytes : List ℕ) (s : RunSettings) (es : List (Event Note)) (old new : SinkState)
-    (fine : image_fault bytes s.nodes s.frames ≡ None) where
-  text_is : (q : Bool) → IsSimulated (image_of bytes s.nodes) (start_of (image_of bytes s.nodes) s.frames s.instructions) s.events es q → IsRunText bytes s (text_of es q) q
+module _ (bytes : List ℕ) (settings : SettingsState) (most : ℕ) (es : List (Event Note)) (old new : SinkState)
+    (fine : image_fault bytes settings ≡ None) where
+  text_is : (q : Bool) → IsSimulated (image_of bytes settings.nodes) (start_of (image_of bytes settings.nodes) settings) most es q → IsRunText bytes settings most (text_of es q) q
   text_is q run = record { accepted = fine; events = es; run = run; text_is = refl }
 
   -- what was simulated, printed
-  pub run_ends : (q : Bool) (x : Exit) → IsSimulated (image_of bytes s.nodes) (start_of (image_of bytes s.nodes) s.frames s.instructions) s.events es q → PrintEnds es q old new x → RunEnds bytes s old new x
+  pub run_ends : (q : Bool) (x : Exit) → IsSimulated (image_of bytes settings.nodes) (start_of (image_of bytes settings.nodes) settings) most es q → PrintEnds es q old new x → RunEnds bytes settings most old new x
   run_ends true exit.Quiet run p = (text_of es true, text_is true run, p.1)
   run_ends false exit.Quiet run p = let e : exit.Quiet ≡ exit.Limit = p.0 in absurd (cc)
   run_ends true exit.Limit run p = let e : exit.Limit ≡ exit.Quiet = p.0 in absurd (cc)
   run_ends false exit.Limit run p = (text_of es false, text_is false run, p.1)
-  run_ends q exit.SinkFault run p = ((text_of es q, q, text_is q run, p.0), p.1)
+  run_ends q exit.SinkFault run p = (text_of es q, q, text_is q run, p)
   run_ends q exit.Memory run (inl same) = inl same
-  run_ends q exit.Memory run (inr cut) = inr ((text_of es q, q, text_is q run, cut.0), cut.1)
+  run_ends q exit.Memory run (inr cut) = inr (text_of es q, q, text_is q run, cut)
   run_ends true exit.Words run p = let e : exit.Words ≡ exit.Quiet = p.0 in absurd (cc)
   run_ends false exit.Words run p = let e : exit.Words ≡ exit.Limit = p.0 in absurd (cc)
   run_ends true exit.NotBuilt run p = let e : exit.NotBuilt ≡ exit.Quiet = p.0 in absurd (cc)

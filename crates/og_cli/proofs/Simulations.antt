@@ -8,6 +8,7 @@ use Rattle.og_runs.specs.World.{World, WorldRun, world_step}
 use Rattle.std.specs.Prelude.{slice_get}
 use Rattle.std.specs.Option.{option_map, is_some}
 use Rattle.std.proofs.lemmas.Option.{slice_get-map, slice_get_within, get_or_from_slice_get}
+use Rattle.og_runs.specs.declared.Msg.{Msg}
 use Rattle.og_runs.specs.declared.Seat.{Seat}
 use Rattle.og_runs.specs.Runs.{start as start_of_histories}
 use Rattle.og_runs.specs.Laws.{IsStart}
@@ -36,7 +37,7 @@ use Rattle.og_core.proofs.Sound.{Sound}
 use Rattle.og_core.proofs.Reached.{seat_zero}
 use Rattle.og_flat.specs.Flat.{Flat, flat_start}
 use Rattle.rv_hart.specs.Image.{start_byte}
-use Rattle.og_cli.specs.Simulate.{IsAdvanced, IsSimulated, CopiesAreFlat}
+use Rattle.og_cli.specs.Simulate.{IsAdvanced, IsSimulated, LeadsTo, CopiesAreFlat}
 
 -- where nothing is next, a simulation ends
 pub drawn_none : (setup : Setup) (n : ℕ) (w : World NodeState Kind) → next_choice w ≡ None → drawn setup n w ≡ (w, [])
@@ -55,28 +56,28 @@ drawn_more setup n w v c e next step =
     ap (λ (o : Option Choice). with_choice setup (λ v. drawn setup n v) w o) next ∙ ap (λ (o : Option (World NodeState Kind × Event Note)). with_event (λ v. drawn setup n v) w o) step
 
 -- the start is one: all actors new, and no message in flight
-pub start_is : (setup : Setup) (instructions : ℕ) → IsStart (λ a. start_node setup a instructions) (start_world setup instructions)
-start_is setup instructions = record {
-  seat = λ a x is. at a x (slice_get (below setup.layout.nodes) a) refl (rw (slice_get-map (new_seat setup instructions) (below setup.layout.nodes) a) at is);
+pub start_is : (setup : Setup) → IsStart (λ a. start_node setup a) (start_world setup)
+start_is setup = record {
+  seat = λ a x is. at a x (slice_get (below setup.layout.nodes) a) refl (rw (slice_get-map (new_seat setup) (below setup.layout.nodes) a) at is);
   flight = refl;
 }
   where
-    at : (a : ℕ) (x : Seat NodeState) (o : Option ℕ) → slice_get (below setup.layout.nodes) a ≡ o → option_map (new_seat setup instructions) (slice_get (below setup.layout.nodes) a) ≡ Some x → x ≡ new_seat setup instructions a
-    at a x None e h = let k : option_map (new_seat setup instructions) None ≡ Some x = rw e at h in absurd (cc)
+    at : (a : ℕ) (x : Seat NodeState) (o : Option ℕ) → slice_get (below setup.layout.nodes) a ≡ o → option_map (new_seat setup) (slice_get (below setup.layout.nodes) a) ≡ Some x → x ≡ new_seat setup a
+    at a x None e h = let k : option_map (new_seat setup) None ≡ Some x = rw e at h in absurd (cc)
     at a x (Some b) e h =
-        let k : Some (new_seat setup instructions b) ≡ Some x = rw e at h in
-        let same : new_seat setup instructions b ≡ x = cc in
+        let k : Some (new_seat setup b) ≡ Some x = rw e at h in
+        let same : new_seat setup b ≡ x = cc in
         let lt : a < length (below setup.layout.nodes) = slice_get_within (below setup.layout.nodes) a b e in
         let here : get_or (below setup.layout.nodes) a 0 ≡ a = below_at setup.layout.nodes a (rw (below_length setup.layout.nodes) at lt) in
         let read : get_or (below setup.layout.nodes) a 0 ≡ b = get_or_from_slice_get (below setup.layout.nodes) a b 0 e in
         let number : b ≡ a = omega arith in
-        sym same ∙ ap (λ (n : ℕ). new_seat setup instructions n) number
+        sym same ∙ ap (λ (n : ℕ). new_seat setup n) number
 
 -- a run from the start is of the choices that its events name
-pub names_choices : (setup : Setup) (instructions : ℕ) (w u : World NodeState Kind) (cs : List Choice) (es : List (Event Note)) → start_world setup instructions ≡ w → WorldRun (rules setup) w cs u es → choices es ≡ cs
-names_choices setup instructions w u cs es start run =
-    let f : ℕ → NodeState = λ a. start_node setup a instructions in
-    let is : IsStart f w = subst (λ (x : World NodeState Kind). IsStart f x) start (start_is setup instructions) in
+pub names_choices : (setup : Setup) (w u : World NodeState Kind) (cs : List Choice) (es : List (Event Note)) → start_world setup ≡ w → WorldRun (rules setup) w cs u es → choices es ≡ cs
+names_choices setup w u cs es start run =
+    let f : ℕ → NodeState = λ a. start_node setup a in
+    let is : IsStart f w = subst (λ (x : World NodeState Kind). IsStart f x) start (start_is setup) in
     let x : ShownRun (rules setup) w (start_of_histories f) cs u es = shown_run (rules setup) cs w (start_of_histories f) u es (start_shows f w is) (start_sound f) run in
     same_choices (rules setup) cs (start_of_histories f) x.state es (start_sound f) x.runs
 
@@ -95,8 +96,8 @@ going_start image m most =
 -- the machine that has come so far was made
 pub going_made : (image : ImageState) (m n : MachineState) (most i : ℕ) (es : List (Event Note)) → MadeBy image m [] [] → Going image m n most i es → MadeBy image n (choices es) es
 going_made image m n most i es start g =
-    let world : start_world (setup_in image m) m.instructions ≡ m.world = start.run.0 in
-    let from : WorldRun (rules (setup_in image m)) (start_world (setup_in image m) m.instructions) (choices es) n.world es = subst (λ (w : World NodeState Kind). WorldRun (rules (setup_in image m)) w (choices es) n.world es) (sym world) g.run in
+    let world : start_world (setup_in image m) ≡ m.world = start.run.0 in
+    let from : WorldRun (rules (setup_in image m)) (start_world (setup_in image m)) (choices es) n.world es = subst (λ (w : World NodeState Kind). WorldRun (rules (setup_in image m)) w (choices es) n.world es) (sym world) g.run in
     let made : MadeBy image (record m { world = n.world }) (choices es) es = record { fits = record { loads = start.fits.loads; one_node = start.fits.one_node; placed = start.fits.placed; room = start.fits.room }; run = from } in
     subst (λ (k : MachineState). MadeBy image k (choices es) es) (sym g.kept) made
 
@@ -109,7 +110,7 @@ going_next image m n v most i es c e lt start g next step kept =
     let left : most - i ≡ suc (most - (i + 1)) = omega arith in
     let one : drawn setup (most - i) n.world ≡ ((drawn setup (most - (i + 1)) v.world).0, e ∷ (drawn setup (most - (i + 1)) v.world).1) = ap (λ (k : ℕ). drawn setup k n.world) left ∙ drawn_more setup (most - (i + 1)) n.world v.world c e next here in
     let more : WorldRun (rules setup) m.world (choices es ++ c ∷ []) v.world (es ++ e ∷ []) = world_more (rules setup) (choices es) m.world n.world v.world es c e g.run here in
-    let list : choices (es ++ e ∷ []) ≡ choices es ++ c ∷ [] = names_choices setup m.instructions m.world v.world (choices es ++ c ∷ []) (es ++ e ∷ []) start.run.0 more in
+    let list : choices (es ++ e ∷ []) ≡ choices es ++ c ∷ [] = names_choices setup m.world v.world (choices es ++ c ∷ []) (es ++ e ∷ []) start.run.0 more in
     record {
       kept = subst (λ (k : MachineState). v ≡ record k { world = v.world }) g.kept kept;
       run = subst (λ (cs : List Choice). WorldRun (rules setup) m.world cs v.world (es ++ e ∷ [])) (sym list) more;
@@ -143,14 +144,11 @@ going_end image m n most i es all g =
       full = λ no. g.count ∙ all;
     }
 
-same_length : {X : Type 0} (xs ys : List X) → IsPermutation xs ys → length xs ≡ length ys
-same_length xs ys p = sym (length_permutation xs ys p)
-
 -- after a run from the start, the copies are flat memory's
 copies_flat : (image : ImageState) (m : MachineState) (es : List (Event Note)) (w : World NodeState Kind) → MadeBy image m [] [] → WorldRun (rules (setup_in image m)) m.world (choices es) w es → CopiesAreFlat image m es w
 copies_flat image m es w start run =
     let setup : Setup = setup_in image m in
-    let from : WorldRun (rules setup) (start_world setup m.instructions) (choices es) w es = subst (λ (u : World NodeState Kind). WorldRun (rules setup) u (choices es) w es) (sym start.run.0) run in
+    let from : WorldRun (rules setup) (start_world setup) (choices es) w es = subst (λ (u : World NodeState Kind). WorldRun (rules setup) u (choices es) w es) (sym start.run.0) run in
     let made : MadeBy image (record m { world = w }) (choices es) es = record { fits = record { loads = start.fits.loads; one_node = start.fits.one_node; placed = start.fits.placed; room = start.fits.room }; run = from } in
     let flat : Flat = flat_end (flat_start (start_byte image)) es in
     let s : Sound setup (length es) flat w = (made_sound image (record m { world = w }) (choices es) es made).0 in
@@ -161,19 +159,30 @@ copies_flat image m es w start run =
           subst (λ (x : Seat NodeState). held x.local (i * 32 + k) ≡ flat.memory (get_or m.layout.pages i 0 * 32 + k)) (sym same) (s.node.holds.line i k inside small);
     }
 
+-- worlds with the same seats and the same flight are one
+one_world : (v w : World NodeState Kind) → v.seats ≡ w.seats → v.flight ≡ w.flight → v ≡ w
+one_world v w a b = ap (λ (xs : List (Seat NodeState)). record { seats = xs; flight = v.flight }) a ∙ ap (λ (ms : List (Msg Kind)). record { seats = w.seats; flight = ms }) b
+
+-- sorted by stamp, the events lead to the same machine
+pub sorted_leads : (image : ImageState) (m n : MachineState) (most : ℕ) (es fs : List (Event Note)) → MadeBy image m [] [] → IsAdvanced image m n most es → IsSorted es fs → LeadsTo image m n fs
+sorted_leads image m n most es fs start a sort =
+    let setup : Setup = setup_in image m in
+    let f : ℕ → NodeState = λ k. start_node setup k in
+    let is : IsStart f m.world = subst (λ (x : World NodeState Kind). IsStart f x) start.run.0 (start_is setup) in
+    let r : (v : World NodeState Kind) × WorldRun (rules setup) m.world (choices fs) v fs × (v.seats ≡ n.world.seats) × (v.flight ≡ n.world.flight) = sorted_run (rules setup) (choices es) m.world n.world (start_of_histories f) es fs (start_shows f m.world is) (start_sound f) a.run sort in
+    (a.kept, subst (λ (w : World NodeState Kind). WorldRun (rules setup) m.world (choices fs) w fs) (one_world r.0 n.world r.2 r.3) r.1)
+
 -- sorted by stamp, the events are a simulation's
 pub simulated : (image : ImageState) (m n : MachineState) (most : ℕ) (es fs : List (Event Note)) → MadeBy image m [] [] → IsAdvanced image m n most es → IsPermutation es fs → IsSorted es fs → IsSimulated image m most fs (is_quiet n.world)
 simulated image m n most es fs start a same sort =
     let setup : Setup = setup_in image m in
-    let f : ℕ → NodeState = λ k. start_node setup k m.instructions in
-    let is : IsStart f m.world = subst (λ (x : World NodeState Kind). IsStart f x) start.run.0 (start_is setup m.instructions) in
-    let r : (v : World NodeState Kind) × WorldRun (rules setup) m.world (choices fs) v fs × (v.seats ≡ n.world.seats) × IsPermutation v.flight n.world.flight = sorted_run (rules setup) (choices es) m.world n.world (start_of_histories f) es fs (start_shows f m.world is) (start_sound f) a.run sort in
-    let v : World NodeState Kind = r.0 in
-    let size : length r.0.flight ≡ length n.world.flight = same_length r.0.flight n.world.flight r.3 in
-    let count : length fs ≡ length es = sym (same_length es fs same) in
-    let from : WorldRun (rules setup) (start_world setup m.instructions) (choices fs) r.0 fs = subst (λ (w : World NodeState Kind). WorldRun (rules setup) w (choices fs) r.0 fs) (sym start.run.0) r.1 in
+    let f : ℕ → NodeState = λ k. start_node setup k in
+    let is : IsStart f m.world = subst (λ (x : World NodeState Kind). IsStart f x) start.run.0 (start_is setup) in
+    let r : (v : World NodeState Kind) × WorldRun (rules setup) m.world (choices fs) v fs × (v.seats ≡ n.world.seats) × (v.flight ≡ n.world.flight) = sorted_run (rules setup) (choices es) m.world n.world (start_of_histories f) es fs (start_shows f m.world is) (start_sound f) a.run sort in
+    let count : length fs ≡ length es = sym (length_permutation fs es same) in
+    let from : WorldRun (rules setup) (start_world setup) (choices fs) r.0 fs = subst (λ (w : World NodeState Kind). WorldRun (rules setup) w (choices fs) r.0 fs) (sym start.run.0) r.1 in
     let made : MadeBy image (record m { world = r.0 }) (choices fs) fs = record { fits = record { loads = start.fits.loads; one_node = start.fits.one_node; placed = start.fits.placed; room = start.fits.room }; run = from } in
-    let quiet : is_quiet n.world ≡ is_quiet r.0 = ap (λ (xs : List (Seat NodeState)). list_all (λ x. is_some x.local.hart.cause) xs && nat_eq (length n.world.flight) 0) (sym r.2) ∙ ap (λ (k : ℕ). list_all (λ x. is_some x.local.hart.cause) r.0.seats && nat_eq k 0) (sym size) in
+    let quiet : is_quiet n.world ≡ is_quiet r.0 = ap (λ (w : World NodeState Kind). is_quiet w) (sym (one_world r.0 n.world r.2 r.3)) in
     record {
       end = r.0;
       run = r.1;

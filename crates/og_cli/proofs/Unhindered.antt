@@ -8,7 +8,7 @@ use Rattle.og_cli.specs.declared.exit.ImageFault.{ImageFault}
 use Rattle.og_cli.specs.declared.exit.ImageFault.TheVariants as fault
 use Rattle.og_cli.specs.Outside.{ShelfState, SinkState, Files, file_of, HasFile, HasLongFile, AddsName, Rises, IsAsBefore}
 use Rattle.og_cli.specs.Words.{JobState}
-use Rattle.og_cli.specs.Exit.{CommandEnds, EndsUnhindered, HasImage, is_built, image_fault, default_frames}
+use Rattle.og_cli.specs.Exit.{CommandEnds, EndsUnhindered, HasImage, is_built, image_fault, settings_of}
 
 -- a count that rose isn't as before
 no_rise : {A : Type 0} → (old new : ℕ) → IsAsBefore old new → Rises old new → A
@@ -23,12 +23,12 @@ no_name name old new same adds =
     absurd (omega arith)
 
 -- the file of an image that is run has no fault
-no_fault : {A : Type 0} → (job : JobState) (files : Option Files) (bytes : List ℕ) (f : ImageFault) → HasImage job files → HasFile files job.name bytes → image_fault bytes job.nodes default_frames ≡ Some f → A
+no_fault : {A : Type 0} → (job : JobState) (files : Option Files) (bytes : List ℕ) (f : ImageFault) → HasImage job files → HasFile files job.name bytes → image_fault bytes (settings_of job) ≡ Some f → A
 no_fault job None bytes f image file wrong = elim image [ ]
 no_fault job (Some fs) bytes f image file wrong = at (file_of fs job.name) file image
   where
-    at : {A : Type 0} → (o : Option (List ℕ)) → o ≡ Some bytes → IsSomeAnd o (λ b. image_fault b job.nodes default_frames ≡ None) → A
-    at (Some b) is fine = let same : b ≡ bytes = cc in let none : image_fault bytes job.nodes default_frames ≡ None = rw same at fine in absurd (cc)
+    at : {A : Type 0} → (o : Option (List ℕ)) → o ≡ Some bytes → IsSomeAnd o (λ b. image_fault b (settings_of job) ≡ None) → A
+    at (Some b) is fine = let same : b ≡ bytes = cc in let none : image_fault bytes (settings_of job) ≡ None = rw same at fine in absurd (cc)
     at None is fine = absurd (cc)
 
 -- a file that is too long is none of an image that is run
@@ -36,11 +36,11 @@ no_long_file : {A : Type 0} → (job : JobState) (files : Option Files) → HasI
 no_long_file job None image long = elim image [ ]
 no_long_file job (Some fs) image long = at (file_of fs job.name) image long
   where
-    at : {A : Type 0} → (o : Option (List ℕ)) → IsSomeAnd o (λ b. image_fault b job.nodes default_frames ≡ None) → IsSomeAnd o (λ b. 67108864 < length b) → A
+    at : {A : Type 0} → (o : Option (List ℕ)) → IsSomeAnd o (λ b. image_fault b (settings_of job) ≡ None) → IsSomeAnd o (λ b. 67108864 < length b) → A
     at None fine more = elim fine [ ]
     at (Some b) fine more =
         let over : nat_lt 67108864 (length b) ≡ true = grind (arith, nat_tests) in
-        let wrong : image_fault b job.nodes default_frames ≡ Some fault.TooLong = rw over refl in
+        let wrong : image_fault b (settings_of job) ≡ Some fault.TooLong = rw over refl in
         absurd (cc)
 
 pub ends_unhindered : (asked : Option JobState) (shelf after : ShelfState) (old new : SinkState) (answer : Exit) → CommandEnds asked shelf after old new answer → EndsUnhindered asked shelf after old new answer
@@ -48,10 +48,10 @@ ends_unhindered None shelf after old new answer ends = tt
 ends_unhindered (Some job) shelf after old new exit.Quiet ends = λ u. inl refl
 ends_unhindered (Some job) shelf after old new exit.Limit ends = λ u. inr (inl refl)
 ends_unhindered (Some job) shelf after old new exit.Memory ends = λ u. inr (inr refl)
-ends_unhindered (Some job) shelf after old new exit.Words (built, kept, (bytes, file, none)) = elim none [ ]
-ends_unhindered (Some job) shelf after old new exit.NotBuilt ends = λ u. let yes : is_built job ≡ true = u.built in let no : is_built job ≡ false = ends.0 in absurd (cc)
-ends_unhindered (Some job) shelf after old new exit.ShelfFault ends = λ u. no_name job.name shelf.failed after.failed u.read ends.1
-ends_unhindered (Some job) shelf after old new (exit.Image fault.TooLong) ends = λ u. no_long_file job shelf.files u.image ends.1
-ends_unhindered (Some job) shelf after old new (exit.Image fault.Raw) (built, kept, (bytes, file, (wrong, same))) = λ u. no_fault job shelf.files bytes fault.Raw u.image file wrong
-ends_unhindered (Some job) shelf after old new (exit.Image (fault.NoFrames need have)) (built, kept, (bytes, file, (wrong, same))) = λ u. no_fault job shelf.files bytes (fault.NoFrames need have) u.image file wrong
-ends_unhindered (Some job) shelf after old new exit.SinkFault (built, kept, (bytes, file, (cut, rises))) = λ u. no_rise old.faults new.faults u.written rises
+ends_unhindered (Some job) shelf after old new exit.Words (same, (built, (bytes, file, none))) = elim none [ ]
+ends_unhindered (Some job) shelf after old new exit.NotBuilt ends = λ u. let yes : is_built job ≡ true = u.built in let no : is_built job ≡ false = ends.1.0 in absurd (cc)
+ends_unhindered (Some job) shelf after old new exit.ShelfFault ends = λ u. no_name job.name shelf.failed after.failed u.read (ap (λ (s : ShelfState). s.failed) ends.0)
+ends_unhindered (Some job) shelf after old new (exit.Image fault.TooLong) ends = λ u. no_long_file job shelf.files u.image ends.1.1
+ends_unhindered (Some job) shelf after old new (exit.Image fault.Raw) (same, (built, (bytes, file, (wrong, kept)))) = λ u. no_fault job shelf.files bytes fault.Raw u.image file wrong
+ends_unhindered (Some job) shelf after old new (exit.Image (fault.NoFrames need have)) (same, (built, (bytes, file, (wrong, kept)))) = λ u. no_fault job shelf.files bytes (fault.NoFrames need have) u.image file wrong
+ends_unhindered (Some job) shelf after old new exit.SinkFault (same, (built, (bytes, file, (text, quiet, run, cut)))) = λ u. no_rise old.faults new.faults u.written cut.1

@@ -1,6 +1,6 @@
 -- How the command ends, and what is told of it.
 use Rattle.std.specs.Prelude.{◌≡◌, ℕ, ◌*◌, ◌⊎◌, Bool, true, false, nat_lt, nat_eq, ◌&&◌, List, [], ◌∷◌, ◌++◌, length, cond, codes, decimal, Option, None, Some, IfSome, IsSomeAnd}
-use Rattle.og_base.specs.declared.Settings.{Settings}
+use Rattle.og_base.specs.Settings.{SettingsState}
 use Rattle.og_runs.specs.declared.Event.{Event}
 use Rattle.rv_hart.specs.Image.{ImageState}
 use Rattle.rv_hart.specs.Layout.{pages_of}
@@ -11,7 +11,7 @@ use Rattle.og_cli.specs.declared.exit.Exit.{Exit}
 use Rattle.og_cli.specs.declared.exit.Exit.TheVariants as exit
 use Rattle.og_cli.specs.declared.exit.ImageFault.{ImageFault}
 use Rattle.og_cli.specs.declared.exit.ImageFault.TheVariants as fault
-use Rattle.og_cli.specs.Outside.{ShelfState, SinkState, Files, file_of, HasFile, HasLongFile, AddsName, appended, AppendsPrefix, Rises, IsAsBefore}
+use Rattle.og_cli.specs.Outside.{ShelfState, SinkState, Files, file_of, HasFile, HasLongFile, appended, AppendsPrefix, Rises, IsAsBefore}
 use Rattle.og_cli.specs.Text.{text_of}
 use Rattle.og_cli.specs.Simulate.{IsSimulated}
 use Rattle.og_cli.specs.declared.words.WordsFault.{WordsFault}
@@ -55,48 +55,47 @@ abbrev pub frames_fault : ℕ → ℕ → Option ImageFault
 frames_fault need have = cond (nat_lt have need) (Some (fault.NoFrames need have)) None
 
 -- why an image isn't run: the first in order, none where it is
-abbrev pub image_fault : List ℕ → ℕ → ℕ → Option ImageFault
-image_fault bytes nodes frames =
-    cond (nat_lt 67108864 (length bytes)) (Some fault.TooLong) (cond (is_out bytes) (Some fault.Raw) (frames_fault (length (pages_of (image_of bytes nodes))) (nodes * frames)))
+abbrev pub image_fault : List ℕ → SettingsState → Option ImageFault
+image_fault bytes settings =
+    cond (nat_lt 67108864 (length bytes)) (Some fault.TooLong) (cond (is_out bytes) (Some fault.Raw) (frames_fault (length (pages_of (image_of bytes settings.nodes))) (settings.nodes * settings.frames)))
+
+-- ------------------------------------------------------------ what becomes of a sink
+
+-- the bytes stand at its end, and its counts are as before
+abbrev pub with_appended : SinkState → List ℕ → SinkState
+with_appended s bytes = record s { held = appended s.held bytes }
+
+-- some first bytes of the text were appended and the count of faults rose; that of wants is as before
+abbrev pub CutByFault : List ℕ → SinkState → SinkState → Type 0
+CutByFault text old new = AppendsPrefix text old.held new.held × Rises old.faults new.faults × (new.wants ≡ old.wants)
+
+-- some first bytes of the text were appended and the count of wants rose; that of faults is as before
+abbrev pub CutByWant : List ℕ → SinkState → SinkState → Type 0
+CutByWant text old new = AppendsPrefix text old.held new.held × Rises old.wants new.wants × (new.faults ≡ old.faults)
 
 -- ------------------------------------------------------------ a run from the bytes of a file
 
--- the settings that a run depends on today
-pub record RunSettings : Type 0 where
-  pub nodes : ℕ
-  pub frames : ℕ
-  pub instructions : ℕ
-  pub events : ℕ
-
--- those of a machine with these settings, for so many events
-abbrev pub run_settings : Settings → ℕ → RunSettings
-run_settings s events = record { nodes = s.nodes; frames = s.frames; instructions = s.instructions; events = events }
-
--- the text is that of a simulation from the image of these bytes, which is accepted
-pub record IsRunText (bytes : List ℕ) (s : RunSettings) (text : List ℕ) (quiet : Bool) : Type 0 where
-  pub accepted : image_fault bytes s.nodes s.frames ≡ None
+-- the text is that of a simulation, of so many events at most, from the image of these bytes, which is accepted
+pub record IsRunText (bytes : List ℕ) (settings : SettingsState) (most : ℕ) (text : List ℕ) (quiet : Bool) : Type 0 where
+  pub accepted : image_fault bytes settings ≡ None
   pub events : List (Event Note)
-  pub run : IsSimulated (image_of bytes s.nodes) (start_of (image_of bytes s.nodes) s.frames s.instructions) s.events events quiet
+  pub run : IsSimulated (image_of bytes settings.nodes) (start_of (image_of bytes settings.nodes) settings) most events quiet
   pub text_is : text ≡ text_of events quiet
 
 -- the whole text was appended
-abbrev pub Printed : List ℕ → RunSettings → SinkState → SinkState → Bool → Type 0
-Printed bytes s old new quiet = (text : List ℕ) × IsRunText bytes s text quiet × (new.held ≡ appended old.held text)
-
--- a prefix of the text was appended
-abbrev pub Cut : List ℕ → RunSettings → SinkState → SinkState → Type 0
-Cut bytes s old new = (text : List ℕ) × (quiet : Bool) × IsRunText bytes s text quiet × AppendsPrefix text old.held new.held
+abbrev pub Printed : List ℕ → SettingsState → ℕ → SinkState → SinkState → Bool → Type 0
+Printed bytes settings most old new quiet = (text : List ℕ) × IsRunText bytes settings most text quiet × (new ≡ with_appended old text)
 
 -- how a run from these bytes ends: quiet or at its limit, with the whole text; with a fault of the sink, whose count
 -- rose; with a fault of the image, the sink as before; for want of memory, the sink as before unless its count of wants
 -- rose
-abbrev pub RunEnds : List ℕ → RunSettings → SinkState → SinkState → Exit → Type 0
-RunEnds bytes s old new exit.Quiet = Printed bytes s old new true
-RunEnds bytes s old new exit.Limit = Printed bytes s old new false
-RunEnds bytes s old new exit.SinkFault = Cut bytes s old new × Rises old.faults new.faults
-RunEnds bytes s old new (exit.Image f) = (image_fault bytes s.nodes s.frames ≡ Some f) × (new ≡ old)
-RunEnds bytes s old new exit.Memory = (new ≡ old) ⊎ (Cut bytes s old new × Rises old.wants new.wants)
-RunEnds bytes s old new other = ⊥
+abbrev pub RunEnds : List ℕ → SettingsState → ℕ → SinkState → SinkState → Exit → Type 0
+RunEnds bytes settings most old new exit.Quiet = Printed bytes settings most old new true
+RunEnds bytes settings most old new exit.Limit = Printed bytes settings most old new false
+RunEnds bytes settings most old new exit.SinkFault = (text : List ℕ) × (quiet : Bool) × IsRunText bytes settings most text quiet × CutByFault text old new
+RunEnds bytes settings most old new (exit.Image f) = (image_fault bytes settings ≡ Some f) × (new ≡ old)
+RunEnds bytes settings most old new exit.Memory = (new ≡ old) ⊎ ((text : List ℕ) × (quiet : Bool) × IsRunText bytes settings most text quiet × CutByWant text old new)
+RunEnds bytes settings most old new other = ⊥
 
 -- ------------------------------------------------------------ printing
 
@@ -107,9 +106,9 @@ ended_of false = exit.Limit
 
 -- how the printing of these events ends
 abbrev pub PrintEnds : List (Event Note) → Bool → SinkState → SinkState → Exit → Type 0
-PrintEnds es quiet old new exit.SinkFault = AppendsPrefix (text_of es quiet) old.held new.held × Rises old.faults new.faults
-PrintEnds es quiet old new exit.Memory = (new ≡ old) ⊎ (AppendsPrefix (text_of es quiet) old.held new.held × Rises old.wants new.wants)
-PrintEnds es quiet old new other = (other ≡ ended_of quiet) × (new.held ≡ appended old.held (text_of es quiet))
+PrintEnds es quiet old new exit.SinkFault = CutByFault (text_of es quiet) old new
+PrintEnds es quiet old new exit.Memory = (new ≡ old) ⊎ CutByWant (text_of es quiet) old new
+PrintEnds es quiet old new other = (other ≡ ended_of quiet) × (new ≡ with_appended old (text_of es quiet))
 
 -- ------------------------------------------------------------ the command
 
@@ -117,25 +116,44 @@ PrintEnds es quiet old new other = (other ≡ ended_of quiet) × (new.held ≡ a
 abbrev pub is_built : JobState → Bool
 is_built job = job.raw && nat_eq job.nodes 1
 
--- the frames of a node, which no word changes yet
-abbrev pub default_frames : ℕ
-default_frames = 64
+-- the settings where no word changes them
+abbrev pub default_settings : SettingsState
+default_settings = record {
+  nodes = 1;
+  frames = 64;
+  sets = 64;
+  ways = 2;
+  tlb = 8;
+  instructions = 1000000;
+  trigger = 64;
+  sharing = 32;
+  moves = 4;
+  reset = 1024;
+}
 
-abbrev pub settings_of : JobState → RunSettings
-settings_of job = record { nodes = job.nodes; frames = default_frames; instructions = job.instructions; events = job.events }
+abbrev pub settings_of : JobState → SettingsState
+settings_of job = record default_settings { nodes = job.nodes; instructions = job.instructions }
 
 -- the file was read, and its run ended so
 abbrev pub ReadAndRun : JobState → ShelfState → SinkState → SinkState → Exit → Type 0
-ReadAndRun job shelf old new exit = (bytes : List ℕ) × HasFile shelf.files job.name bytes × RunEnds bytes (settings_of job) old new exit
+ReadAndRun job shelf old new exit = (bytes : List ℕ) × HasFile shelf.files job.name bytes × RunEnds bytes (settings_of job) job.events old new exit
 
--- how a job ends, with what becomes of the shelf and of the sink: what isn't built isn't begun; a fault of the shelf
--- added the file's name to the failed ones; a file that is too long has more bytes than the limit; else the file was read
+-- what becomes of the shelf: nothing, but that a file which couldn't be read has its name added to the failed ones
+abbrev pub ShelfAfter : List ℕ → Exit → ShelfState → ShelfState → Type 0
+ShelfAfter name exit.ShelfFault shelf after = after ≡ record shelf { failed = shelf.failed ++ name ∷ [] }
+ShelfAfter name other shelf after = after ≡ shelf
+
+-- how a job is answered, and what becomes of the sink: what isn't built isn't begun; a file that couldn't be read, or that
+-- is too long, leaves the sink; else the file was read
+abbrev pub JobAnswers : JobState → ShelfState → SinkState → SinkState → Exit → Type 0
+JobAnswers job shelf old new exit.NotBuilt = (is_built job ≡ false) × (new ≡ old)
+JobAnswers job shelf old new exit.ShelfFault = (is_built job ≡ true) × (new ≡ old)
+JobAnswers job shelf old new (exit.Image fault.TooLong) = (is_built job ≡ true) × HasLongFile shelf.files job.name 67108864 × (new ≡ old)
+JobAnswers job shelf old new exit.Memory = (new ≡ old) ⊎ ((is_built job ≡ true) × ReadAndRun job shelf old new exit.Memory)
+JobAnswers job shelf old new other = (is_built job ≡ true) × ReadAndRun job shelf old new other
+
 abbrev pub JobEnds : JobState → ShelfState → ShelfState → SinkState → SinkState → Exit → Type 0
-JobEnds job shelf after old new exit.NotBuilt = (is_built job ≡ false) × (new ≡ old) × (after ≡ shelf)
-JobEnds job shelf after old new exit.ShelfFault = (is_built job ≡ true) × AddsName job.name shelf.failed after.failed × (new ≡ old)
-JobEnds job shelf after old new (exit.Image fault.TooLong) = (is_built job ≡ true) × HasLongFile shelf.files job.name 67108864 × (new ≡ old)
-JobEnds job shelf after old new exit.Memory = (after.failed ≡ shelf.failed) × ((new ≡ old) ⊎ ((is_built job ≡ true) × ReadAndRun job shelf old new exit.Memory))
-JobEnds job shelf after old new other = (is_built job ≡ true) × (after.failed ≡ shelf.failed) × ReadAndRun job shelf old new other
+JobEnds job shelf after old new exit = ShelfAfter job.name exit shelf after × JobAnswers job shelf old new exit
 
 -- how the command ends: words that ask for no job are answered just so, and nothing is begun
 abbrev pub CommandEnds : Option JobState → ShelfState → ShelfState → SinkState → SinkState → Exit → Type 0
@@ -144,7 +162,7 @@ CommandEnds (Some job) shelf after old new answer = JobEnds job shelf after old 
 
 -- the shelf tells its files, and the one of the job's name is an image that is run
 abbrev pub HasImage : JobState → Option Files → Type 0
-HasImage job files = IsSomeAnd files (λ fs. IsSomeAnd (file_of fs job.name) (λ bytes. image_fault bytes job.nodes default_frames ≡ None))
+HasImage job files = IsSomeAnd files (λ fs. IsSomeAnd (file_of fs job.name) (λ bytes. image_fault bytes (settings_of job) ≡ None))
 
 -- the job is built and its image is run, no name was added to the failed ones, and the sink didn't fail
 pub record IsUnhindered (job : JobState) (shelf after : ShelfState) (old new : SinkState) : Type 0 where
@@ -162,9 +180,9 @@ abbrev pub name_of : Option JobState → List ℕ
 name_of None = []
 name_of (Some job) = job.name
 
--- the answer's line was written to the standard error, or a prefix of it where a count of the sink rose
+-- the answer's line was appended to the standard error, or some first bytes of it where a count of the sink rose
 abbrev pub IsTold : List ℕ → SinkState → SinkState → Type 0
-IsTold text old new = (new.held ≡ appended old.held text) ⊎ (AppendsPrefix text old.held new.held × (Rises old.faults new.faults ⊎ Rises old.wants new.wants))
+IsTold text old new = (new ≡ with_appended old text) ⊎ CutByFault text old new ⊎ CutByWant text old new
 
 -- the answer to words that aren't understood, or for want of memory
 abbrev pub refused_of : WordsFault → Exit

@@ -22,6 +22,10 @@ HasFile files name bytes = IfSome files (λ fs. file_of fs name ≡ Some bytes)
 abbrev pub HasLongFile : Option Files → List ℕ → ℕ → Type 0
 HasLongFile files name limit = IfSome files (λ fs. IsSomeAnd (file_of fs name) (λ bytes. limit < length bytes))
 
+-- the files are told, and there is one with this name that has more than so many bytes
+abbrev pub TellsLongFile : Option Files → List ℕ → ℕ → Type 0
+TellsLongFile files name limit = IsSomeAnd files (λ fs. IsSomeAnd (file_of fs name) (λ bytes. limit < length bytes))
+
 -- what contracts see of a shelf: its files, where they are told, and the names whose fetch failed, in their order
 pub record ShelfState : Type 0 where
   pub files : Option Files

@@ -33,6 +33,10 @@ pub record CopiesAreFlat (image : ImageState) (m : MachineState) (events : List 
   pub lines : (seat : Seat NodeState) (i k : ℕ) → slice_get w.seats 0 ≡ Some seat → i < length m.layout.pages → k < 32
       → held seat.local (i * 32 + k) ≡ (flat_end (flat_start (start_byte image)) events).memory (get_or m.layout.pages i 0 * 32 + k)
 
+-- these events lead from the machine m to n
+abbrev pub LeadsTo : ImageState → MachineState → MachineState → List (Event Note) → Type 0
+LeadsTo image m n events = (n ≡ record m { world = n.world }) × WorldRun (rules (setup_in image m)) m.world (choices events) n.world events
+
 -- from the machine m, which is at its start, a simulation of at most so many events has these events in the order of
 -- their stamps, and ends quiet or not
 pub record IsSimulated (image : ImageState) (m : MachineState) (most : ℕ) (events : List (Event Note)) (quiet : Bool) : Type 0 where
@@ -50,7 +54,7 @@ pub record IsSimulated (image : ImageState) (m : MachineState) (most : ℕ) (eve
   pub full : quiet ≡ false → length events ≡ most
   pub few : length events ≤ most
   -- what the harts did is a flat run
-  pub flat : FlatRun image m.instructions (hart_notes events)
+  pub flat : FlatRun (setup_in image m) (hart_notes events)
   -- in each state of the run, the copies are flat memory's after the events so far
   pub copies : (before after : List (Event Note)) (w : World NodeState Kind) → events ≡ before ++ after
       → WorldRun (rules (setup_in image m)) m.world (choices before) w before → CopiesAreFlat image m before w

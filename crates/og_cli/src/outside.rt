@@ -6,7 +6,7 @@
 //! shelf keeps the names that it failed at, and a sink counts its faults.
 
 ghost use Rattle.std.specs.Prelude.{◌≡◌, ◌≢◌, ℕ, ◌≤◌, List, [], length, take, Option, Ok, Err, OnOk, OnErr, IfOk, vec_len};
-ghost use Rattle.og_cli.specs.Outside.{ShelfState, SinkState, HasFile, HasLongFile, AddsName, AddsAtMost, appended, AppendsPrefix, Rises, texts, parts_text};
+ghost use Rattle.og_cli.specs.Outside.{ShelfState, SinkState, HasFile, HasLongFile, TellsLongFile, AddsName, AddsAtMost, appended, AppendsPrefix, Rises, texts, parts_text};
 
 use std::alloc::{AllocError, Global};
 
@@ -46,6 +46,9 @@ pub trait Shelf {
         ensures within { IfOk result (λ bytes. vec_len bytes ≤ limit) }
         ensures added { result ≡ Err ShelfFault.Failed → AddsName name.now (seen self.old).failed (seen self.new).failed }
         ensures too_long { result ≡ Err ShelfFault.TooLong → HasLongFile (seen self.old).files name.now limit }
+
+        // A file that is told to be too long is told so, whatever the memory.
+        ensures long { TellsLongFile (seen self.old).files name.now limit → result ≢ Err ShelfFault.Failed → result ≡ Err ShelfFault.TooLong }
         ensures kept { result ≢ Err ShelfFault.Failed → (seen self.new).failed ≡ (seen self.old).failed };
 }
 
@@ -94,9 +97,9 @@ pub trait Sink {
         ensures appends { IfOk result (λ n. (seen self.new).held ≡ appended (seen self.old).held (take n piece.now)) }
         ensures nothing { OnErr result ((seen self.new).held ≡ (seen self.old).held) }
         ensures fault { result ≡ Err SinkFault.Failed → Rises (seen self.old).faults (seen self.new).faults }
+        ensures no_fault { result ≢ Err SinkFault.Failed → (seen self.new).faults ≡ (seen self.old).faults }
         ensures want { result ≡ Err SinkFault.Memory → Rises (seen self.old).wants (seen self.new).wants }
-        ensures faults_stay { (seen self.old).faults ≤ (seen self.new).faults }
-        ensures wants_stay { (seen self.old).wants ≤ (seen self.new).wants };
+        ensures no_want { result ≢ Err SinkFault.Memory → (seen self.new).wants ≡ (seen self.old).wants };
 }
 
 /// The most that is handed to a sink at once.
@@ -116,22 +119,23 @@ fn write_piece<K: Sink>(sink: &mut K, text: &[u8]) -> Result<usize, SinkFault>
     ensures appends { IfOk result (λ n. (K.seen sink.new).held ≡ appended (K.seen sink.old).held (take n text.now)) }
     ensures nothing { OnErr result ((K.seen sink.new).held ≡ (K.seen sink.old).held) }
     ensures fault { result ≡ Err SinkFault.Failed → Rises (K.seen sink.old).faults (K.seen sink.new).faults }
+    ensures no_fault { result ≢ Err SinkFault.Failed → (K.seen sink.new).faults ≡ (K.seen sink.old).faults }
     ensures want { result ≡ Err SinkFault.Memory → Rises (K.seen sink.old).wants (K.seen sink.new).wants }
-    ensures faults_stay { (K.seen sink.old).faults ≤ (K.seen sink.new).faults }
-    ensures wants_stay { (K.seen sink.old).wants ≤ (K.seen sink.new).wants }
+    ensures no_want { result ≢ Err SinkFault.Memory → (K.seen sink.new).wants ≡ (K.seen sink.old).wants }
 {
     sink.write(first_piece(text))
 }
 
 /// Writes the whole text, in pieces of at most 65,536 bytes. After a refusal some first bytes of the
-/// text were appended, and the fault is that of the sink's last call.
+/// text were appended, and the fault is that of the sink's last call. A count that the answer doesn't
+/// name is as before.
 pub fn write_all<K: Sink>(sink: &mut K, text: &[u8]) -> Result<(), SinkFault>
     ensures whole { OnOk result ((K.seen sink.new).held ≡ appended (K.seen sink.old).held text.now) }
     ensures prefix { OnErr result (AppendsPrefix text.now (K.seen sink.old).held (K.seen sink.new).held) }
     ensures fault { result ≡ Err SinkFault.Failed → Rises (K.seen sink.old).faults (K.seen sink.new).faults }
+    ensures no_fault { result ≢ Err SinkFault.Failed → (K.seen sink.new).faults ≡ (K.seen sink.old).faults }
     ensures want { result ≡ Err SinkFault.Memory → Rises (K.seen sink.old).wants (K.seen sink.new).wants }
-    ensures faults_stay { (K.seen sink.old).faults ≤ (K.seen sink.new).faults }
-    ensures wants_stay { (K.seen sink.old).wants ≤ (K.seen sink.new).wants }
+    ensures no_want { result ≢ Err SinkFault.Memory → (K.seen sink.new).wants ≡ (K.seen sink.old).wants }
 {
     let mut rest = text;
     while !rest.is_empty() {
@@ -142,14 +146,15 @@ pub fn write_all<K: Sink>(sink: &mut K, text: &[u8]) -> Result<(), SinkFault>
 }
 
 /// Writes the parts of a text, one after the other, and takes no memory itself. After a refusal some
-/// first bytes of the text were appended, and the fault is that of the sink's last call.
+/// first bytes of the text were appended, and the fault is that of the sink's last call. A count that the answer doesn't
+/// name is as before.
 pub fn write_parts<K: Sink>(sink: &mut K, parts: &[&[u8]]) -> Result<(), SinkFault>
     ensures whole { OnOk result ((K.seen sink.new).held ≡ appended (K.seen sink.old).held (parts_text parts.now)) }
     ensures prefix { OnErr result (AppendsPrefix (parts_text parts.now) (K.seen sink.old).held (K.seen sink.new).held) }
     ensures fault { result ≡ Err SinkFault.Failed → Rises (K.seen sink.old).faults (K.seen sink.new).faults }
+    ensures no_fault { result ≢ Err SinkFault.Failed → (K.seen sink.new).faults ≡ (K.seen sink.old).faults }
     ensures want { result ≡ Err SinkFault.Memory → Rises (K.seen sink.old).wants (K.seen sink.new).wants }
-    ensures faults_stay { (K.seen sink.old).faults ≤ (K.seen sink.new).faults }
-    ensures wants_stay { (K.seen sink.old).wants ≤ (K.seen sink.new).wants }
+    ensures no_want { result ≢ Err SinkFault.Memory → (K.seen sink.new).wants ≡ (K.seen sink.old).wants }
 {
     for part in parts {
         write_all(sink, part)?;

@@ -3,14 +3,14 @@
 ghost use Rattle.std.specs.Prelude.{◌≡◌, [], IfOk, OnOk, vec_len};
 ghost use Rattle.og_core.specs.Machine.{MadeBy, IsMade};
 ghost use Rattle.og_core.specs.Simulation.{next_choice};
-ghost use Rattle.og_cli.specs.Simulate.{IsSimulated, IsAdvanced};
+ghost use Rattle.og_cli.specs.Simulate.{IsSimulated, IsAdvanced, LeadsTo};
 
 use og_base::NoMemory;
 use og_core::machine::Machine;
 use og_core::msg::Event;
 use og_runs::sort_events;
 use rv_hart::image::Image;
-use std::alloc::{AllocError, Global};
+use std::alloc::Global;
 
 /// The events of a simulation in the order of their stamps, and whether it ended quiet.
 #[derive(Drop)]
@@ -20,7 +20,8 @@ pub struct Simulated {
 }
 
 /// Makes events from a machine's start on, until it is quiet or `most` were made. While a hart isn't
-/// stopped the choice is the enabled one; afterwards it is the drain's.
+/// stopped the choice is the enabled one; afterwards it is the drain's. Afterwards the machine is the one
+/// that the events lead to. After want of memory it is one that some of them lead to.
 pub fn simulate(
     alloc: Global,
     image: &Image,
@@ -28,7 +29,9 @@ pub fn simulate(
     most: u32,
 ) -> Result<Simulated, NoMemory>
     requires { MadeBy image.now machine.old [] [] }
-    ensures { IfOk result (λ simulated. IsSimulated image.now machine.old most simulated.events.items simulated.quiet) }
+    ensures run { IfOk result (λ simulated. IsSimulated image.now machine.old most simulated.events.items simulated.quiet) }
+    ensures machine { IfOk result (λ simulated. LeadsTo image.now machine.old machine.new simulated.events.items) }
+    ensures made { IsMade image.now machine.new }
 {
     let mut events = Vec::new(alloc);
     advance(image, machine, &mut events, most)?;
@@ -46,18 +49,18 @@ fn advance(
 ) -> Result<(), NoMemory>
     requires start { MadeBy image.now machine.old [] [] }
     requires none { events.old.items ≡ [] }
-    ensures { OnOk result (IsAdvanced image.now machine.old machine.new most events.new.items) }
+    ensures advanced { OnOk result (IsAdvanced image.now machine.old machine.new most events.new.items) }
+    ensures made { IsMade image.now machine.new }
 {
     for made in 0..most {
         let choice = match machine.next_choice(image) {
             Some(choice) => choice,
             None => return Ok(()),
         };
-        let event = match machine.step(image, choice) {
-            Ok(event) => event,
-            Err(_) => return Err(AllocError),
-        };
-        events.push(event)?;
+        match machine.step(image, choice) {
+            Ok(event) => events.push(event)?,
+            Err(_) => unreachable!(),
+        }
     }
     Ok(())
 }

@@ -3,11 +3,12 @@
 ghost use Rattle.std.specs.Prelude.{◌≡◌, ◌≤◌, ℕ, [], ◌+◌, ◌*◌, ◌^◌, ◌⊎◌, length, IfOk, IfErr, OnOk, OnErr, true, false, string_bytes};
 ghost use Rattle.rv_hart.specs.Layout.{pages_of};
 ghost use Rattle.rv_hart.specs.Raw.{is_out};
+ghost use Rattle.og_base.specs.Settings.{settings_seen};
 ghost use Rattle.og_core.specs.Machine.{start_of};
-ghost use Rattle.og_cli.specs.Outside.{appended, AppendsPrefix, Rises, parts_text, texts};
+ghost use Rattle.og_cli.specs.Outside.{TellsLongFile, parts_text, texts};
 ghost use Rattle.og_cli.specs.Simulate.{IsSimulated};
 ghost use Rattle.og_cli.specs.Text.{text_of};
-ghost use Rattle.og_cli.specs.Exit.{fault_text, refused_of, default_frames, is_built, JobEnds, CommandEnds, EndsUnhindered, IsTold, name_of, PrintEnds, ended_of, run_settings, RunEnds, IsRunText, image_of, image_fault, told_of};
+ghost use Rattle.og_cli.specs.Exit.{fault_text, refused_of, default_settings, is_built, JobEnds, CommandEnds, EndsUnhindered, IsTold, name_of, PrintEnds, ended_of, RunEnds, IsRunText, image_of, image_fault, told_of};
 ghost use Rattle.og_cli.specs.Words.{job_seen, job_of};
 
 use crate::exit::{Exit, ImageFault};
@@ -58,7 +59,7 @@ fn run_bytes<K: Sink>(
 ) -> Exit
     requires one { settings.now.nodes ≡ 1 }
     requires within { length bytes.now ≤ 67108864 }
-    ensures ends { RunEnds bytes.now (run_settings settings.now events) (K.seen out.old) (K.seen out.new) result }
+    ensures ends { RunEnds bytes.now (settings_seen settings.now) events (K.seen out.old) (K.seen out.new) result }
     ensures raw { is_out bytes.now ≡ true → result ≡ Exit.Image ImageFault.Raw }
 {
     let elf = match read_raw(alloc, bytes) {
@@ -89,6 +90,7 @@ fn perform<F: Shelf, K: Sink>(alloc: Global, job: &Job, shelf: &mut F, out: &mut
     requires instructions { job.now.instructions ≤ 1000000 }
     ensures ends { JobEnds (job_seen job.now) (F.seen shelf.old) (F.seen shelf.new) (K.seen out.old) (K.seen out.new) result }
     ensures built { is_built (job_seen job.now) ≡ false → result ≡ Exit.NotBuilt }
+    ensures long { is_built (job_seen job.now) ≡ true → TellsLongFile (F.seen shelf.old).files (job_seen job.now).name 67108864 → (result ≡ Exit.ShelfFault) ⊎ (result ≡ Exit.Image ImageFault.TooLong) }
 {
     if !job.raw || job.nodes != 1 {
         return Exit::NotBuilt;
@@ -106,9 +108,7 @@ fn perform<F: Shelf, K: Sink>(alloc: Global, job: &Job, shelf: &mut F, out: &mut
 fn settings(nodes: u8, instructions: u32) -> Settings
     requires nodes { (1 ≤ nodes) × (nodes ≤ 16) }
     requires instructions { instructions ≤ 1000000 }
-    ensures nodes { result.nodes ≡ nodes }
-    ensures frames { result.frames ≡ default_frames }
-    ensures instructions { result.instructions ≡ instructions }
+    ensures { settings_seen result ≡ record default_settings { nodes = nodes; instructions = instructions } }
 {
     Settings {
         nodes,

@@ -1,6 +1,6 @@
 -- Which choices are enabled in the machine of one node, and that a machine that isn't quiet has one.
-use Rattle.std.proofs.Common.{◌≡◌, ℕ, zero, suc, ◌+◌, ◌-◌, ◌<◌, ◌≤◌, true, false, List, [], ◌∷◌, ◌++◌, length, map, Option, Some, None, arith, refl, subst, Ok, Err, Result}
-use Rattle.std.specs.Prelude.{slice_get}
+use Rattle.std.proofs.Common.{◌≡◌, ℕ, zero, suc, ◌+◌, ◌-◌, ◌<◌, ◌≤◌, Bool, true, false, ◌&&◌, cond, nat_eq, ◌≢◌, List, [], ◌∷◌, ◌++◌, length, map, Option, Some, None, arith, refl, sym, subst, ap, ◌∙◌, Ok, Err, Result}
+use Rattle.std.specs.Prelude.{slice_get, IfSome}
 use Rattle.std.specs.Option.{option_map}
 use Rattle.og_base.specs.declared.Block.{Block}
 use Rattle.og_base.specs.declared.Cause.{Cause}
@@ -13,7 +13,10 @@ use Rattle.og_runs.specs.declared.Choice.{Choice}
 use Rattle.og_runs.specs.declared.Choice.TheVariants.{Act, Take}
 use Rattle.og_runs.specs.declared.Msg.{Msg}
 use Rattle.og_runs.specs.declared.Seat.{Seat}
-use Rattle.og_runs.specs.World.{World}
+use Rattle.og_flight.specs.Flight.{first_sent, sooner_of, sent_before}
+use Rattle.og_runs.specs.declared.MsgId.{MsgId}
+use Rattle.og_runs.specs.World.{World, find, without}
+use Rattle.og_core.proofs.Worlds.{left_none}
 use Rattle.rv_hart.specs.Image.{ImageState, start_byte}
 use Rattle.og_core.specs.declared.msg.Kind.{Kind}
 use Rattle.og_core.specs.Node.{NodeState, can_act_of}
@@ -46,10 +49,6 @@ choices_of (x ∷ xs) ms = act_by 0 (can_act_of x.local) ++ map (λ k. Take 0 k.
 pub enabled_is : (w : World NodeState Kind) → Shape w → enabled_of w ≡ choices_of w.seats w.flight
 enabled_is w (idle x seats flight r) = rw (seats, flight) refl
 enabled_is w (waiting x block m seats flight r runs to) = rw (seats, flight, to) refl
-
-pub drain_is : (w : World NodeState Kind) → Shape w → drain_of w ≡ option_map (λ k. Take k.to k.id) (slice_get w.flight 0)
-drain_is w (idle x seats flight r) = rw flight refl
-drain_is w (waiting x block m seats flight r runs to) = rw flight refl
 
 few_acts : (r : Result (Unit {0}) NotEnabled) → length (act_by 0 r ++ []) ≤ 1
 few_acts (Ok u) = omega arith
@@ -142,3 +141,56 @@ drained w s stopped none = none_quiet w s (rw stopped none)
 
 pub quiet_drained : (w : World NodeState Kind) → Shape w → is_stopped w ≡ true → is_quiet w ≡ true → drain_of w ≡ None
 quiet_drained w s stopped quiet = rw stopped at (quiet_none w s quiet)
+
+-- ------------------------------------------------------------ what is in flight beside an event
+
+-- a node that may act has nothing in flight
+pub act_alone : (w : World NodeState Kind) (a : ℕ) (y : Seat NodeState) → Shape w → slice_get w.seats a ≡ Some y → can_act_of y.local ≡ Ok tt → w.flight ≡ []
+act_alone w a y (idle x seats flight r) there can = flight
+act_alone w a y (waiting x block m seats flight r runs to) there can = at a (rw seats at there)
+  where
+    at : (b : ℕ) → slice_get (x ∷ []) b ≡ Some y → w.flight ≡ []
+    at zero is = let same : x ≡ y = cc in let waits : can_act_of x.local ≡ Err Outstanding = waits_not x.local block runs r in let may : can_act_of x.local ≡ Ok tt = subst (λ (z : Seat NodeState). can_act_of z.local ≡ Ok tt) (sym same) can in absurd (cc)
+    at (suc b) is = absurd (cc)
+
+-- what is taken was alone in flight
+pub take_alone : (w : World NodeState Kind) (i : MsgId) (k : Msg Kind) → Shape w → find i w.flight ≡ Some k → without k.id w.flight ≡ []
+take_alone w i k (idle x seats flight r) found = let none : find i w.flight ≡ None = rw flight refl in absurd (cc)
+take_alone w i k (waiting x block m seats flight r runs to) found = left_none w.flight k (at (same_id i m.id) (rw flight at found))
+  where
+    at : (b : Bool) → cond b (Some m) None ≡ Some k → w.flight ≡ k ∷ []
+    at true is = let same : m ≡ k = cc in flight ∙ ap (λ (z : Msg Kind). z ∷ []) same
+    at false is = absurd (cc)
+
+-- a drain has no choice exactly where nothing is in flight
+first_there : (m : Msg Kind) (o : Option (Msg Kind)) → sooner_of m o ≢ None
+first_there m None = λ is. absurd (cc)
+first_there m (Some n) = at (sent_before m n)
+  where
+    at : (b : Bool) → cond b (Some m) (Some n) ≢ None
+    at true = λ is. absurd (cc)
+    at false = λ is. absurd (cc)
+
+pub first_none : (ms : List (Msg Kind)) → first_sent ms ≡ None → ms ≡ []
+first_none [] is = refl
+first_none (m ∷ ms) is = absurd (first_there m (first_sent ms) is)
+
+-- none is first exactly where a stopped machine is quiet
+pub drain_none : (w : World NodeState Kind) → is_stopped w ≡ true → first_sent w.flight ≡ None → is_quiet w ≡ true
+drain_none w stopped none = rw (stopped, first_none w.flight none) refl
+
+pub drain_some : (w : World NodeState Kind) (k : Msg Kind) → first_sent w.flight ≡ Some k → is_quiet w ≡ true → ⊥
+drain_some w k some quiet = at w.flight some quiet
+  where
+    at : (ms : List (Msg Kind)) → first_sent ms ≡ Some k → (is_stopped w && nat_eq (length ms) 0) ≡ true → ⊥
+    at [] is q = let none : None ≡ Some k = is in absurd (cc)
+    at (m ∷ ms) is q = no (is_stopped w) q
+      where
+        no : (b : Bool) → (b && nat_eq (length (m ∷ ms)) 0) ≡ true → ⊥
+        no true h = let not : nat_eq (length (m ∷ ms)) 0 ≡ false = grind (arith, nat_tests) in let e : true ≡ false = sym h ∙ not in absurd (cc)
+        no false h = absurd (cc)
+
+-- what is next is enabled
+pub next_enabled : (w : World NodeState Kind) (o : Option Choice) → Shape w → o ≡ next_choice w → IfSome o (λ c. refusal_of w c ≡ None)
+next_enabled w None s is = tt
+next_enabled w (Some c) s is = next_made w c s (sym is)

@@ -11,8 +11,8 @@ use Rattle.rv_hart.specs.Image.{ImageState}
 use Rattle.rv_hart.proofs.HartFacts.{finish_keeps, finish_left}
 use Rattle.og_core.specs.declared.msg.Note.{Note}
 use Rattle.og_core.specs.declared.msg.Note.TheVariants as note
-use Rattle.og_core.specs.FlatRun.{goes_on, settled_within, settled, FlatState, with_hart, Entry, hart_next, memory_next, flat_step, FlatRunFrom, hart_notes, with_note, of_hart}
-use Rattle.og_core.specs.HartRuns.{HartMove, HartsRun, Stops, Answered, AnswersFlat, flat_noted}
+use Rattle.og_core.specs.FlatRun.{goes_on, settled_within, settled, FlatState, with_hart, MayNote, hart_next, memory_next, flat_step, FlatRunFrom, hart_notes, with_note, of_hart}
+use Rattle.og_core.specs.HartRuns.{HartMove, HartsRun, IsNotedInside, Stops, Answered, AnswersFlat, flat_noted}
 
 -- the machine's hart h has come further than the flat run's f by instructions that need nothing
 pub record Behind (image : ImageState) (f h : HartState) : Type 0 where
@@ -74,16 +74,16 @@ arrived image f h b is = b.same ∙ stays image h.left h is
 -- the entry that a hart's move makes, and what it leaves
 record Enters (image : ImageState) (s : FlatState) (p : ℕ) (noted : Note) (after : HartState) : Type 0 where
   runs : (s.harts p).cause ≡ None
-  entry : Entry s p (settled image (s.harts p)) (need_of image (settled image (s.harts p))) noted
+  entry : MayNote s p (settled image (s.harts p)) (need_of image (settled image (s.harts p))) noted
   next : hart_next image (settled image (s.harts p)) (need_of image (settled image (s.harts p))) noted ≡ after
 
-enters_by : (image : ImageState) (s : FlatState) (p : ℕ) (noted : Note) (h after : HartState) (d : Need) → Behind image (s.harts p) h → h.cause ≡ None → need_of image h ≡ d → goes_on d ≡ false → Entry s p h d noted → hart_next image h d noted ≡ after → Enters image s p noted after
+enters_by : (image : ImageState) (s : FlatState) (p : ℕ) (noted : Note) (h after : HartState) (d : Need) → Behind image (s.harts p) h → h.cause ≡ None → need_of image h ≡ d → goes_on d ≡ false → MayNote s p h d noted → hart_next image h d noted ≡ after → Enters image s p noted after
 enters_by image s p noted h after d b runs is needs entry next =
     let there : settled image (s.harts p) ≡ h = arrived image (s.harts p) h b (rw is needs) in
     let need_is : need_of image (settled image (s.harts p)) ≡ d = ap (λ (k : HartState). need_of image k) there ∙ is in
     record {
       runs = b.cause ∙ runs;
-      entry = subst (λ (k : HartState). Entry s p k (need_of image (settled image (s.harts p))) noted) (sym there) (subst (λ (e : Need). Entry s p h e noted) (sym need_is) entry);
+      entry = subst (λ (k : HartState). MayNote s p k (need_of image (settled image (s.harts p))) noted) (sym there) (subst (λ (e : Need). MayNote s p h e noted) (sym need_is) entry);
       next = ap (λ (k : HartState). hart_next image k (need_of image (settled image (s.harts p))) noted) there ∙ ap (λ (e : Need). hart_next image h e noted) need_is ∙ next;
     }
 
@@ -127,20 +127,20 @@ mover_stays image flat p (note.Freed frame) h after other m = (m, refl)
 -- harts whose accesses have the flat memory's answers make a flat run
 pub flat_from : (image : ImageState) (s : FlatState) (hs : ℕ → HartState) (es : List (Event Note)) → ((q : ℕ) → Behind image (s.harts q) (hs q)) → HartsRun image hs es → Answered s.flat es → FlatRunFrom image s (hart_notes es)
 flat_from image s hs [] all run answered = tt
-flat_from image s hs (e ∷ es) all run answered = at e.note run.1 answered.0 (λ t b a. flat_from image t (with_hart hs e.stamp.actor run.0) es b run.2 a) answered.1
+flat_from image s hs (e ∷ es) all run answered = at e.note run.1 run.2 answered.0 (λ t b a. flat_from image t (with_hart hs e.stamp.actor run.0) es b run.3 a) answered.1
   where
-    at : (o : Option Note) → HartMove image (hs e.stamp.actor) o run.0 → AnswersFlat s.flat e.stamp.actor o →
+    at : (o : Option Note) → IsNotedInside image.nodes e.stamp.actor o → HartMove image (hs e.stamp.actor) o run.0 → AnswersFlat s.flat e.stamp.actor o →
         ((t : FlatState) → ((q : ℕ) → Behind image (t.harts q) (with_hart hs e.stamp.actor run.0 q)) → Answered t.flat es → FlatRunFrom image t (hart_notes es)) →
         Answered (flat_noted s.flat e.stamp.actor o) es → FlatRunFrom image s (with_note e.stamp.actor o (hart_notes es))
-    at None m a rest left = rest s (behind_on image s.harts hs e.stamp.actor run.0 all (quiet_move image (s.harts e.stamp.actor) (hs e.stamp.actor) run.0 (all e.stamp.actor) m)) left
-    at (Some noted) m a rest left = by (cases_Bool (of_hart noted))
+    at None inside m a rest left = rest s (behind_on image s.harts hs e.stamp.actor run.0 all (quiet_move image (s.harts e.stamp.actor) (hs e.stamp.actor) run.0 (all e.stamp.actor) m)) left
+    at (Some noted) inside m a rest left = by (cases_Bool (of_hart noted))
       where
         by : ((of_hart noted ≡ true) ⊎ (of_hart noted ≡ false)) → FlatRunFrom image s (cond (of_hart noted) ((e.stamp.actor, noted) ∷ hart_notes es) (hart_notes es))
         by (inl mine) =
             let x : Enters image s e.stamp.actor noted run.0 = enters image s e.stamp.actor noted (hs e.stamp.actor) run.0 (all e.stamp.actor) mine m a in
             let t : FlatState = flat_step image s e.stamp.actor noted in
             let both : Behind image (hart_next image (settled image (s.harts e.stamp.actor)) (need_of image (settled image (s.harts e.stamp.actor))) noted) run.0 = rw x.next (record { same = refl; cause = refl }) in
-            rw mine (x.runs, x.entry, rest t (behind_with image s.harts hs e.stamp.actor (hart_next image (settled image (s.harts e.stamp.actor)) (need_of image (settled image (s.harts e.stamp.actor))) noted) run.0 all both) (subst (λ (f : Flat). Answered f es) (sym (memory_same s.flat e.stamp.actor noted)) left))
+            rw mine (inside mine, x.runs, x.entry, rest t (behind_with image s.harts hs e.stamp.actor (hart_next image (settled image (s.harts e.stamp.actor)) (need_of image (settled image (s.harts e.stamp.actor))) noted) run.0 all both) (subst (λ (f : Flat). Answered f es) (sym (memory_same s.flat e.stamp.actor noted)) left))
         by (inr other) =
             let y : (run.0 ≡ hs e.stamp.actor) × (flat_noted s.flat e.stamp.actor (Some noted) ≡ s.flat) = mover_stays image s.flat e.stamp.actor noted (hs e.stamp.actor) run.0 other m in
             rw other (rest s (behind_on image s.harts hs e.stamp.actor run.0 all (rw y.0 (all e.stamp.actor))) (subst (λ (f : Flat). Answered f es) y.1 left))

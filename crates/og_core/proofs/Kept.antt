@@ -1,5 +1,5 @@
 -- Each event of the machine of one node keeps what holds of it, and answers as the flat memory does.
-use Rattle.std.proofs.Common.{◌≡◌, ◌≢◌, ℕ, ◌+◌, ◌*◌, ◌/◌, ◌%◌, ◌<◌, ◌≤◌, true, false, nat_eq, List, [], ◌∷◌, ◌++◌, length, Option, Some, None, inl, inr, arith, refl, sym, subst, ap, ◌∙◌, length-set}
+use Rattle.std.proofs.Common.{◌≡◌, ◌≢◌, ℕ, ◌+◌, ◌*◌, ◌/◌, ◌%◌, ◌<◌, ◌≤◌, true, false, nat_eq, List, [], ◌∷◌, length, Option, Some, None, inl, inr, arith, refl, sym, subst, ap, ◌∙◌, length-set}
 use Rattle.std.specs.Prelude.{slice_get, slice_set}
 use Rattle.std.specs.List.Sorted.{IsStrictlyIncreasing}
 use Rattle.std.proofs.lemmas.Bool.Decides.{nat_tests}
@@ -15,6 +15,7 @@ use Rattle.og_line.specs.Access.{addr_of, answer_of}
 use Rattle.og_flat.specs.Flat.{Flat, flat_answer, flat_next, block_of}
 use Rattle.og_runs.specs.declared.Msg.{Msg}
 use Rattle.og_runs.specs.Runs.{Outcome, posted}
+use Rattle.og_runs.specs.World.{placed_all}
 use Rattle.rv_hart.specs.declared.hart.Need.{Need}
 use Rattle.rv_hart.specs.declared.hart.Need.TheVariants as need
 use Rattle.rv_hart.specs.Image.{ImageState}
@@ -44,16 +45,17 @@ Answers flat noted = AnswersFlat flat 0 noted
 pub record IsSetup (setup : Setup) : Type 0 where
   pub one : setup.layout.nodes ≡ 1
   pub rising : IsStrictlyIncreasing setup.layout.pages
-  pub room : length setup.layout.pages ≤ setup.frames
+  pub image_one : setup.image.nodes ≡ 1
+  pub room : length setup.layout.pages ≤ setup.settings.frames
 
 -- an outcome of an event of the node keeps the node sound
 pub record Kept (setup : Setup) (n : ℕ) (flat : Flat) (ms : List (Msg Kind)) (clock next : ℕ) (o : Outcome NodeState Kind Note) : Type 0 where
-  pub sound : NodeSound setup (n + 1) (flat_after flat o.note) o.local (ms ++ posted 0 clock next o.letters)
+  pub sound : NodeSound setup (n + 1) (flat_after flat o.note) o.local (placed_all ms (posted 0 clock next o.letters))
   pub answers : Answers flat o.note
   pub few : length o.letters ≤ 1
 
 -- an idle node's blocks without a copy are unowned
-free_of : (setup : Setup) (n : ℕ) (flat : Flat) (x : NodeState) (ms : List (Msg Kind)) → NodeSound setup n flat x ms → x.request ≡ None → (ms ≡ []) × Free setup.frames x (λ j. false)
+free_of : (setup : Setup) (n : ℕ) (flat : Flat) (x : NodeState) (ms : List (Msg Kind)) → NodeSound setup n flat x ms → x.request ≡ None → (ms ≡ []) × Free setup.settings.frames x (λ j. false)
 free_of setup n flat x ms s idle = subst (λ (r : Option Block). Going setup x ms r) idle s.going
 
 more_low : (n : ℕ) (x : NodeState) → Low n x → Low (n + 1) x
@@ -85,11 +87,11 @@ module _ (setup : Setup) (good : IsSetup setup) (n : ℕ) (flat : Flat) (x : Nod
 
   -- an access on a copy
   pub hit : (line : Line) (access : Access) (block : Block) → NodeSound setup n flat x [] → x.request ≡ None → block_at setup.layout (addr_of access) ≡ Some block →
-      slice_get x.copies (block_number setup.frames block) ≡ Some (Some line) →
-      Kept setup n flat [] clock next (record { local = completed setup.image x (block_number setup.frames block) line access; letters = []; note = Some (access_note x line access) })
+      slice_get x.copies (block_number setup.settings.frames block) ≡ Some (Some line) →
+      Kept setup n flat [] clock next (record { local = completed setup.image x (block_number setup.settings.frames block) line access; letters = []; note = Some (access_note x line access) })
   hit line access block s idle is there =
       let p : (i : ℕ) × Place setup.layout (addr_of access) block i = place_of setup.layout (addr_of access) block good.one is in
-      let b : ℕ = block_number setup.frames block in
+      let b : ℕ = block_number setup.settings.frames block in
       let same : line ≡ flat.memory (block_of access) = sym (copy_held x b line there) ∙ found setup flat x line access block p.0 good.rising p.1 s.sizes good.room s.holds in
       record {
         sound = record {
@@ -105,7 +107,7 @@ module _ (setup : Setup) (good : IsSetup setup) (n : ℕ) (flat : Flat) (x : Nod
 
   -- a question to the home
   pub miss : (access : Access) (block : Block) → NodeSound setup n flat x [] → x.request ≡ None → x.hart.cause ≡ None → need_of setup.image x.hart ≡ need.Access access → block_at setup.layout (addr_of access) ≡ Some block →
-      slice_get x.copies (block_number setup.frames block) ≡ Some None →
+      slice_get x.copies (block_number setup.settings.frames block) ≡ Some None →
       Kept setup n flat [] clock next (record { local = record x { request = Some block }; letters = record { to = block.frame.home; kind = ReadEx block } ∷ []; note = None })
   miss access block s idle runs needs is there =
       let p : (i : ℕ) × Place setup.layout (addr_of access) block i = place_of setup.layout (addr_of access) block good.one is in
@@ -133,12 +135,12 @@ module _ (setup : Setup) (good : IsSetup setup) (n : ℕ) (flat : Flat) (x : Nod
       }
 
   -- the home grants the block
-  pub grant : (sender : ℕ) (ms : List (Msg Kind)) (block : Block) (line : Line) → Waits setup x ms block → Free setup.frames x (λ j. false) → Sizes setup.frames x → Holds setup flat x → Low n x → x.request ≡ Some block → sender ≡ 0 → slice_get x.lines (home_number block) ≡ Some line →
+  pub grant : (sender : ℕ) (ms : List (Msg Kind)) (block : Block) (line : Line) → Waits setup x ms block → Free setup.settings.frames x (λ j. false) → Sizes setup.settings.frames x → Holds setup flat x → Low n x → x.request ≡ Some block → sender ≡ 0 → slice_get x.lines (home_number block) ≡ Some line →
       Kept setup n flat [] clock next (record { local = record x { entries = slice_set x.entries (home_number block) (Exclusive sender) }; letters = record { to = sender; kind = ExclusiveReply block line 0 } ∷ []; note = None })
   grant sender ms block line w free sizes holds low asked is home =
       let p : (i : ℕ) × Place setup.layout (addr_of w.access) block i = place_of setup.layout (addr_of w.access) block good.one w.asked_for in
-      let both : (block_number setup.frames block ≡ p.0 * 32 + addr_of w.access / 128 % 32) × (home_number block ≡ p.0 * 32 + addr_of w.access / 128 % 32) = numbers setup.layout (addr_of w.access) setup.frames block p.0 p.1 in
-      let number : home_number block ≡ block_number setup.frames block = both.1 ∙ sym both.0 in
+      let both : (block_number setup.settings.frames block ≡ p.0 * 32 + addr_of w.access / 128 % 32) × (home_number block ≡ p.0 * 32 + addr_of w.access / 128 % 32) = numbers setup.layout (addr_of w.access) setup.settings.frames block p.0 p.1 in
+      let number : home_number block ≡ block_number setup.settings.frames block = both.1 ∙ sym both.0 in
       let y : NodeState = record x { entries = slice_set x.entries (home_number block) (Exclusive sender) } in
       record {
         sound = record {
@@ -162,22 +164,22 @@ module _ (setup : Setup) (good : IsSetup setup) (n : ℕ) (flat : Flat) (x : Nod
         few = omega arith;
       }
     where
-      others : (j : ℕ) → home_number block ≡ block_number setup.frames block → slice_get x.entries j ≡ Some Unowned → nat_eq j (block_number setup.frames block) ≡ false → slice_get (slice_set x.entries (home_number block) (Exclusive sender)) j ≡ Some Unowned
+      others : (j : ℕ) → home_number block ≡ block_number setup.settings.frames block → slice_get x.entries j ≡ Some Unowned → nat_eq j (block_number setup.settings.frames block) ≡ false → slice_get (slice_set x.entries (home_number block) (Exclusive sender)) j ≡ Some Unowned
       others j number was other = let ne : j ≢ home_number block = grind (arith, nat_tests) in put_other x.entries (home_number block) j (Exclusive sender) ne was
 
   -- the grant fills the copy, and the access is made
-  pub fill : (access : Access) (block : Block) (line : Line) (frees : Free setup.frames x (λ j. nat_eq j (block_number setup.frames block))) → Sizes setup.frames x → Holds setup flat x → Low n x → block_at setup.layout (addr_of access) ≡ Some block →
-      slice_get x.copies (block_number setup.frames block) ≡ Some None → slice_get x.lines (home_number block) ≡ Some line →
-      Kept setup n flat [] clock next (record { local = record (completed setup.image x (block_number setup.frames block) line access) { request = None }; letters = []; note = Some (access_note x line access) })
+  pub fill : (access : Access) (block : Block) (line : Line) (frees : Free setup.settings.frames x (λ j. nat_eq j (block_number setup.settings.frames block))) → Sizes setup.settings.frames x → Holds setup flat x → Low n x → block_at setup.layout (addr_of access) ≡ Some block →
+      slice_get x.copies (block_number setup.settings.frames block) ≡ Some None → slice_get x.lines (home_number block) ≡ Some line →
+      Kept setup n flat [] clock next (record { local = record (completed setup.image x (block_number setup.settings.frames block) line access) { request = None }; letters = []; note = Some (access_note x line access) })
   fill access block line frees sizes holds low is absent home =
       let p : (i : ℕ) × Place setup.layout (addr_of access) block i = place_of setup.layout (addr_of access) block good.one is in
-      let b : ℕ = block_number setup.frames block in
-      let both : (block_number setup.frames block ≡ p.0 * 32 + addr_of access / 128 % 32) × (home_number block ≡ p.0 * 32 + addr_of access / 128 % 32) = numbers setup.layout (addr_of access) setup.frames block p.0 p.1 in
+      let b : ℕ = block_number setup.settings.frames block in
+      let both : (block_number setup.settings.frames block ≡ p.0 * 32 + addr_of access / 128 % 32) × (home_number block ≡ p.0 * 32 + addr_of access / 128 % 32) = numbers setup.layout (addr_of access) setup.settings.frames block p.0 p.1 in
       let number : home_number block ≡ b = both.1 ∙ sym both.0 in
       let there : slice_get x.lines b ≡ Some line = subst (λ (j : ℕ). slice_get x.lines j ≡ Some line) number home in
       let same : line ≡ flat.memory (block_of access) = sym (home_held x b line absent there) ∙ found setup flat x line access block p.0 good.rising p.1 sizes good.room holds in
       let after : NodeState = completed setup.image x b line access in
-      let sizes' : Sizes setup.frames after = completed_sizes setup flat x line access block p.0 good.rising p.1 sizes good.room in
+      let sizes' : Sizes setup.settings.frames after = completed_sizes setup flat x line access block p.0 good.rising p.1 sizes good.room in
       let holds' : Holds setup (flat_next flat 0 access) after = completed_holds setup flat x line access block p.0 good.rising p.1 sizes good.room holds same in
       let low' : Low (n + 1) after = completed_low setup flat x line access block p.0 good.rising p.1 sizes good.room n low (low.lines b line there) in
       record {
@@ -211,14 +213,14 @@ act_kept setup good n flat x ms clock next o s is = at x.hart.cause x.request re
     done : (p : Outcome NodeState Kind Note) → Kept setup n flat [] clock next p → Some p ≡ Some o → ms ≡ [] → Kept setup n flat ms clock next o
     done p k e none = let same : p ≡ o = cc in subst (λ (l : List (Msg Kind)). Kept setup n flat l clock next o) (sym none) (subst (λ (q : Outcome NodeState Kind Note). Kept setup n flat [] clock next q) same k)
 
-    copy : (access : Access) (block : Block) (c : Option (Option Line)) → NodeSound setup n flat x [] → x.request ≡ None → x.hart.cause ≡ None → need_of setup.image x.hart ≡ need.Access access → block_at setup.layout (addr_of access) ≡ Some block → slice_get x.copies (block_number setup.frames block) ≡ c → by_copy setup.image x access (block_number setup.frames block) block c ≡ Some o → ms ≡ [] → Kept setup n flat ms clock next o
-    copy access block (Some (Some line)) t idle runs needs there c e none = done (record { local = completed setup.image x (block_number setup.frames block) line access; letters = []; note = Some (access_note x line access) }) (hit setup good n flat x clock next line access block t idle there c) e none
+    copy : (access : Access) (block : Block) (c : Option (Option Line)) → NodeSound setup n flat x [] → x.request ≡ None → x.hart.cause ≡ None → need_of setup.image x.hart ≡ need.Access access → block_at setup.layout (addr_of access) ≡ Some block → slice_get x.copies (block_number setup.settings.frames block) ≡ c → by_copy setup.image x access (block_number setup.settings.frames block) block c ≡ Some o → ms ≡ [] → Kept setup n flat ms clock next o
+    copy access block (Some (Some line)) t idle runs needs there c e none = done (record { local = completed setup.image x (block_number setup.settings.frames block) line access; letters = []; note = Some (access_note x line access) }) (hit setup good n flat x clock next line access block t idle there c) e none
     copy access block (Some None) t idle runs needs there c e none = done (record { local = record x { request = Some block }; letters = record { to = block.frame.home; kind = ReadEx block } ∷ []; note = None }) (miss setup good n flat x clock next access block t idle runs needs there c) e none
     copy access block None t idle runs needs there c e none = absurd (cc)
 
     place : (access : Access) (b : Option Block) → NodeSound setup n flat x [] → x.request ≡ None → x.hart.cause ≡ None → need_of setup.image x.hart ≡ need.Access access → block_at setup.layout (addr_of access) ≡ b → by_block setup x access b ≡ Some o → ms ≡ [] → Kept setup n flat ms clock next o
     place access None t idle runs needs there e none = absurd (cc)
-    place access (Some block) t idle runs needs there e none = copy access block (slice_get x.copies (block_number setup.frames block)) t idle runs needs there refl e none
+    place access (Some block) t idle runs needs there e none = copy access block (slice_get x.copies (block_number setup.settings.frames block)) t idle runs needs there refl e none
 
     needs : (d : Need) → NodeSound setup n flat x [] → x.request ≡ None → x.hart.cause ≡ None → need_of setup.image x.hart ≡ d → by_need setup x d ≡ Some o → ms ≡ [] → Kept setup n flat ms clock next o
     needs need.Plain t idle runs e is none = done (record { local = record x { hart = finish_of setup.image x.hart 0 }; letters = []; note = None }) (record { sound = hart_only setup good n flat x clock next (finish_of setup.image x.hart 0) t idle; answers = tt; few = omega arith }) is none
@@ -230,7 +232,7 @@ act_kept setup good n flat x ms clock next o s is = at x.hart.cause x.request re
     at (Some cause) r ec er e = absurd (cc)
     at None (Some block) ec er e = absurd (cc)
     at None None ec er e =
-        let f : (ms ≡ []) × Free setup.frames x (λ j. false) = free_of setup n flat x ms s er in
+        let f : (ms ≡ []) × Free setup.settings.frames x (λ j. false) = free_of setup n flat x ms s er in
         needs (need_of setup.image x.hart) (subst (λ (l : List (Msg Kind)). NodeSound setup n flat x l) f.0 s) er ec refl e f.0
 
 -- what the take of the one message in flight gives
@@ -246,14 +248,14 @@ same_self : (b : Block) → same_block b b ≡ true
 same_self b = grind (arith, nat_tests)
 
 -- the home serves the question
-served : (setup : Setup) → IsSetup setup → (n : ℕ) (flat : Flat) (x : NodeState) (ms : List (Msg Kind)) (message : Msg Kind) (clock next : ℕ) (block : Block) → NodeSound setup n flat x ms → x.request ≡ Some block → Waits setup x ms block → message.id.sender ≡ 0 → message.to ≡ 0 → message.kind ≡ ReadEx block → Free setup.frames x (λ j. false) → Taken setup n flat x message clock next
+served : (setup : Setup) → IsSetup setup → (n : ℕ) (flat : Flat) (x : NodeState) (ms : List (Msg Kind)) (message : Msg Kind) (clock next : ℕ) (block : Block) → NodeSound setup n flat x ms → x.request ≡ Some block → Waits setup x ms block → message.id.sender ≡ 0 → message.to ≡ 0 → message.kind ≡ ReadEx block → Free setup.settings.frames x (λ j. false) → Taken setup n flat x message clock next
 served setup good n flat x ms message clock next block s asked w from to kind free =
     let p : (i : ℕ) × Place setup.layout (addr_of w.access) block i = place_of setup.layout (addr_of w.access) block good.one w.asked_for in
-    let both : (block_number setup.frames block ≡ p.0 * 32 + addr_of w.access / 128 % 32) × (home_number block ≡ p.0 * 32 + addr_of w.access / 128 % 32) = numbers setup.layout (addr_of w.access) setup.frames block p.0 p.1 in
-    let number : block_number setup.frames block ≡ home_number block = both.0 ∙ sym both.1 in
+    let both : (block_number setup.settings.frames block ≡ p.0 * 32 + addr_of w.access / 128 % 32) × (home_number block ≡ p.0 * 32 + addr_of w.access / 128 % 32) = numbers setup.layout (addr_of w.access) setup.settings.frames block p.0 p.1 in
+    let number : block_number setup.settings.frames block ≡ home_number block = both.0 ∙ sym both.1 in
     let inside : p.0 < length setup.layout.pages = p.1.inside in
-    let room : length setup.layout.pages ≤ setup.frames = good.room in
-    let low : home_number block < setup.frames * 32 = let h : home_number block ≡ p.0 * 32 + addr_of w.access / 128 % 32 = both.1 in omega arith in
+    let room : length setup.layout.pages ≤ setup.settings.frames = good.room in
+    let low : home_number block < setup.settings.frames * 32 = let h : home_number block ≡ p.0 * 32 + addr_of w.access / 128 % 32 = both.1 in omega arith in
     let home : block.frame.home ≡ 0 = rw p.1.is refl in
     let absent : slice_get x.copies (home_number block) ≡ Some None = rw number at w.absent in
     let entry : slice_get x.entries (home_number block) ≡ Some Unowned = free (home_number block) low absent refl in
@@ -271,10 +273,10 @@ served setup good n flat x ms message clock next block s asked w from to kind fr
     }
 
 -- the grant is taken
-granted : (setup : Setup) → IsSetup setup → (n : ℕ) (flat : Flat) (x : NodeState) (ms : List (Msg Kind)) (message : Msg Kind) (clock next : ℕ) (block : Block) (line : Line) → NodeSound setup n flat x ms → x.request ≡ Some block → Waits setup x ms block → message.to ≡ 0 → message.kind ≡ ExclusiveReply block line 0 → slice_get x.lines (home_number block) ≡ Some line → Free setup.frames x (λ j. nat_eq j (block_number setup.frames block)) → Taken setup n flat x message clock next
+granted : (setup : Setup) → IsSetup setup → (n : ℕ) (flat : Flat) (x : NodeState) (ms : List (Msg Kind)) (message : Msg Kind) (clock next : ℕ) (block : Block) (line : Line) → NodeSound setup n flat x ms → x.request ≡ Some block → Waits setup x ms block → message.to ≡ 0 → message.kind ≡ ExclusiveReply block line 0 → slice_get x.lines (home_number block) ≡ Some line → Free setup.settings.frames x (λ j. nat_eq j (block_number setup.settings.frames block)) → Taken setup n flat x message clock next
 granted setup good n flat x ms message clock next block line s asked w to kind home free =
-    let o : Outcome NodeState Kind Note = record { local = record (completed setup.image x (block_number setup.frames block) line w.access) { request = None }; letters = []; note = Some (access_note x line w.access) } in
-    let row : by_fill setup.image x (block_number setup.frames block) line (slice_get x.copies (block_number setup.frames block)) (need_of setup.image x.hart) ≡ Some o = rw (w.absent, w.needed) refl in
+    let o : Outcome NodeState Kind Note = record { local = record (completed setup.image x (block_number setup.settings.frames block) line w.access) { request = None }; letters = []; note = Some (access_note x line w.access) } in
+    let row : by_fill setup.image x (block_number setup.settings.frames block) line (slice_get x.copies (block_number setup.settings.frames block)) (need_of setup.image x.hart) ≡ Some o = rw (w.absent, w.needed) refl in
     let full : by_request setup x block line 0 (Some block) ≡ Some o = rw (same_self block) row in
     record {
       outcome = o;
@@ -288,7 +290,7 @@ granted setup good n flat x ms message clock next block line s asked w to kind h
 taken : (setup : Setup) → IsSetup setup → (n : ℕ) (flat : Flat) (x : NodeState) (ms : List (Msg Kind)) (message : Msg Kind) (clock next : ℕ) → NodeSound setup n flat x ms → ms ≡ message ∷ [] → Taken setup n flat x message clock next
 taken setup good n flat x ms message clock next s one = at x.request refl s.going
   where
-    by_kind : (block : Block) (k : Kind) → x.request ≡ Some block → Waits setup x ms block → message.id.sender ≡ 0 → message.to ≡ 0 → message.kind ≡ k → Asks setup.frames x block k → Taken setup n flat x message clock next
+    by_kind : (block : Block) (k : Kind) → x.request ≡ Some block → Waits setup x ms block → message.id.sender ≡ 0 → message.to ≡ 0 → message.kind ≡ k → Asks setup.settings.frames x block k → Taken setup n flat x message clock next
     by_kind block (ReadEx b) asked w from to is a =
         let kind : message.kind ≡ ReadEx block = subst (λ (c : Block). message.kind ≡ ReadEx c) a.0 is in
         served setup good n flat x ms message clock next block s asked w from to kind a.1
@@ -302,7 +304,7 @@ taken setup good n flat x ms message clock next s one = at x.request refl s.goin
     at (Some block) e w =
         let there : ms ≡ w.message ∷ [] = w.one in
         let same : w.message ≡ message = cc in
-        by_kind block message.kind e w (subst (λ (m : Msg Kind). m.id.sender ≡ 0) same w.sender) (subst (λ (m : Msg Kind). m.to ≡ 0) same w.receiver) refl (subst (λ (m : Msg Kind). Asks setup.frames x block m.kind) same w.asks)
+        by_kind block message.kind e w (subst (λ (m : Msg Kind). m.id.sender ≡ 0) same w.sender) (subst (λ (m : Msg Kind). m.to ≡ 0) same w.receiver) refl (subst (λ (m : Msg Kind). Asks setup.settings.frames x block m.kind) same w.asks)
 
 -- the take of the one message in flight
 pub take_kept : (setup : Setup) → IsSetup setup → (n : ℕ) (flat : Flat) (x : NodeState) (ms : List (Msg Kind)) (message : Msg Kind) (clock next : ℕ) (o : Outcome NodeState Kind Note) → NodeSound setup n flat x ms → ms ≡ message ∷ [] → take_of setup 0 x message ≡ Some o → Kept setup n flat [] clock next o × HartMove setup.image x.hart o.note o.local.hart
@@ -336,14 +338,14 @@ act_moves setup x o is = at x.hart.cause x.request refl is
     done : (p : Outcome NodeState Kind Note) → HartMove setup.image x.hart p.note p.local.hart → Some p ≡ Some o → HartMove setup.image x.hart o.note o.local.hart
     done p m e = let same : p ≡ o = cc in subst (λ (q : Outcome NodeState Kind Note). HartMove setup.image x.hart q.note q.local.hart) same m
 
-    copy : (access : Access) (block : Block) (c : Option (Option Line)) → x.hart.cause ≡ None → need_of setup.image x.hart ≡ need.Access access → by_copy setup.image x access (block_number setup.frames block) block c ≡ Some o → HartMove setup.image x.hart o.note o.local.hart
-    copy access block (Some (Some line)) runs needs e = done (record { local = completed setup.image x (block_number setup.frames block) line access; letters = []; note = Some (access_note x line access) }) (runs, needs, refl) e
+    copy : (access : Access) (block : Block) (c : Option (Option Line)) → x.hart.cause ≡ None → need_of setup.image x.hart ≡ need.Access access → by_copy setup.image x access (block_number setup.settings.frames block) block c ≡ Some o → HartMove setup.image x.hart o.note o.local.hart
+    copy access block (Some (Some line)) runs needs e = done (record { local = completed setup.image x (block_number setup.settings.frames block) line access; letters = []; note = Some (access_note x line access) }) (runs, needs, refl) e
     copy access block (Some None) runs needs e = done (record { local = record x { request = Some block }; letters = record { to = block.frame.home; kind = ReadEx block } ∷ []; note = None }) (inl refl) e
     copy access block None runs needs e = absurd (cc)
 
     place : (access : Access) (b : Option Block) → x.hart.cause ≡ None → need_of setup.image x.hart ≡ need.Access access → by_block setup x access b ≡ Some o → HartMove setup.image x.hart o.note o.local.hart
     place access None runs needs e = absurd (cc)
-    place access (Some block) runs needs e = copy access block (slice_get x.copies (block_number setup.frames block)) runs needs e
+    place access (Some block) runs needs e = copy access block (slice_get x.copies (block_number setup.settings.frames block)) runs needs e
 
     needs : (d : Need) → x.hart.cause ≡ None → need_of setup.image x.hart ≡ d → by_need setup x d ≡ Some o → HartMove setup.image x.hart o.note o.local.hart
     needs need.Plain runs e is = done (record { local = record x { hart = finish_of setup.image x.hart 0 }; letters = []; note = None }) (inr (runs, e, refl)) is

@@ -8,3 +8,5 @@ pub mod Flats
 pub mod Reached
 pub mod Machines
 pub mod Choices
+pub mod Notes
+pub mod Enabled

@@ -33,7 +33,7 @@ use Rattle.og_core.specs.Node.{NodeState, Setup, rules, act_of, take_of, can_act
 use Rattle.og_core.specs.Start.{stack_end}
 use Rattle.og_core.specs.Machine.{MachineState, IsMade, IsYoungWorld, IsFor, MadeBy, start_world, new_seat, setup_in}
 use Rattle.og_core.specs.FlatRun.{with_hart, flat_begin, FlatRun, hart_notes}
-use Rattle.og_core.specs.HartRuns.{HartsRun, HartMove, Answered, AnswersFlat, flat_noted, flat_end}
+use Rattle.og_core.specs.HartRuns.{HartsRun, IsNotedInside, HartMove, Answered, AnswersFlat, flat_noted, flat_end}
 use Rattle.og_core.proofs.Sound.{Sound, NodeSound, Sizes, Going, Asks}
 use Rattle.og_core.proofs.Kept.{IsSetup, take_there}
 use Rattle.og_core.proofs.Worlds.{Stepped, step_sound, only_message, clock_found}
@@ -45,6 +45,10 @@ pub record Reached (setup : Setup) (n : ℕ) (flat : Flat) (harts : ℕ → Hart
   pub sound : Sound setup (n + length es) (flat_end flat es) u
   pub answered : Answered flat es
   pub harts_run : HartsRun setup.image harts es
+
+inside_zero : (setup : Setup) → IsSetup setup → (o : Option Note) → IsNotedInside setup.image.nodes 0 o
+inside_zero setup good None = tt
+inside_zero setup good (Some noted) = λ mine. let one : setup.image.nodes ≡ 1 = good.image_one in omega arith
 
 pub run_sound : (setup : Setup) → IsSetup setup → (cs : List Choice) (n : ℕ) (flat : Flat) (harts : ℕ → HartState) (w u : World NodeState Kind) (es : List (Event Note)) (s : Sound setup n flat w) → harts 0 ≡ s.seat.local.hart → WorldRun (rules setup) w cs u es → Reached setup n flat harts u es
 run_sound setup good [] n flat harts w u es s same run =
@@ -67,35 +71,36 @@ run_sound setup good (c ∷ cs) n flat harts w u es s same run =
     let rest' : Reached setup (n + 1) (flat_noted flat e.stamp.actor e.note) (with_hart harts e.stamp.actor after) u fs = subst (λ (a : ℕ). Reached setup (n + 1) (flat_noted flat a e.note) (with_hart harts a after) u fs) one rest in
     let move : HartMove setup.image (harts e.stamp.actor) e.note after = subst (λ (a : ℕ). HartMove setup.image (harts a) e.note after) one (subst (λ (h : HartState). HartMove setup.image h e.note after) (sym same) k.moves) in
     let answers : AnswersFlat flat e.stamp.actor e.note = subst (λ (a : ℕ). AnswersFlat flat a e.note) one k.answers in
+    let inside : IsNotedInside setup.image.nodes e.stamp.actor e.note = subst (λ (a : ℕ). IsNotedInside setup.image.nodes a e.note) one (inside_zero setup good e.note) in
     let count : (n + 1) + length fs ≡ n + length (e ∷ fs) = omega arith in
     let sound : Sound setup (n + length (e ∷ fs)) (flat_end flat (e ∷ fs)) u = subst (λ (m : ℕ). Sound setup m (flat_end flat (e ∷ fs)) u) count rest'.sound in
-    let whole : Reached setup n flat harts u (e ∷ fs) = record { sound = sound; answered = (answers, rest'.answered); harts_run = (after, move, rest'.harts_run) } in
+    let whole : Reached setup n flat harts u (e ∷ fs) = record { sound = sound; answered = (answers, rest'.answered); harts_run = (after, inside, move, rest'.harts_run) } in
     subst (λ (gs : List (Event Note)). Reached setup n flat harts u gs) (sym run.4) whole
 
 pub good_setup : (image : ImageState) (m : MachineState) → IsFor image m → IsSetup (setup_in image m)
 good_setup image m f =
     let nodes : m.layout.nodes ≡ image.nodes = ap (λ (l : LayoutState). l.nodes) f.placed in
     let pages : m.layout.pages ≡ pages_of image = ap (λ (l : LayoutState). l.pages) f.placed in
-    record { one = nodes ∙ f.one_node; rising = rw pages (pages_rise image); room = rw pages f.room }
+    record { one = nodes ∙ f.one_node; image_one = f.one_node; rising = rw pages (pages_rise image); room = rw pages f.room }
 
 only : (x y : Seat NodeState) → x ∷ [] ≡ y ∷ [] → x ≡ y
 only x y e = cc
 
 -- the machine that choices lead to is sound, and its events are a flat run
-pub made_sound : (image : ImageState) (m : MachineState) (cs : List Choice) (es : List (Event Note)) → MadeBy image m cs es → Sound (setup_in image m) (length es) (flat_end (flat_start (start_byte image)) es) m.world × FlatRun image m.instructions (hart_notes es)
+pub made_sound : (image : ImageState) (m : MachineState) (cs : List Choice) (es : List (Event Note)) → MadeBy image m cs es → Sound (setup_in image m) (length es) (flat_end (flat_start (start_byte image)) es) m.world × FlatRun (setup_in image m) (hart_notes es)
 made_sound image m cs es made =
     let setup : Setup = setup_in image m in
     let good : IsSetup setup = good_setup image m made.fits in
-    let s : Sound setup 0 (flat_start (start_byte image)) (start_world setup m.instructions) = start_sound setup good m.instructions in
+    let s : Sound setup 0 (flat_start (start_byte image)) (start_world setup) = start_sound setup good in
     let nodes : m.layout.nodes ≡ image.nodes = ap (λ (l : LayoutState). l.nodes) made.fits.placed in
-    let seats : (start_world setup m.instructions).seats ≡ new_seat setup m.instructions 0 ∷ [] = seats_one setup good m.instructions in
-    let there : (start_world setup m.instructions).seats ≡ s.seat ∷ [] = s.one in
-    let seat : new_seat setup m.instructions 0 ≡ s.seat = only (new_seat setup m.instructions 0) s.seat (sym seats ∙ there) in
-    let first : start_of image.entry 0 image.nodes (stack_end 0) m.instructions ≡ s.seat.local.hart = ap (λ (k : ℕ). start_of image.entry 0 k (stack_end 0) m.instructions) (sym nodes) ∙ ap (λ (x : Seat NodeState). x.local.hart) seat in
-    let r : Reached setup (0) (flat_start (start_byte image)) (flat_begin image m.instructions).harts m.world es = run_sound setup good cs 0 (flat_start (start_byte image)) (flat_begin image m.instructions).harts (start_world setup m.instructions) m.world es s first made.run in
+    let seats : (start_world setup).seats ≡ new_seat setup 0 ∷ [] = seats_one setup good in
+    let there : (start_world setup).seats ≡ s.seat ∷ [] = s.one in
+    let seat : new_seat setup 0 ≡ s.seat = only (new_seat setup 0) s.seat (sym seats ∙ there) in
+    let first : start_of image.entry 0 image.nodes (stack_end 0) m.settings.instructions ≡ s.seat.local.hart = ap (λ (k : ℕ). start_of image.entry 0 k (stack_end 0) m.settings.instructions) (sym nodes) ∙ ap (λ (x : Seat NodeState). x.local.hart) seat in
+    let r : Reached setup (0) (flat_start (start_byte image)) (flat_begin setup).harts m.world es = run_sound setup good cs 0 (flat_start (start_byte image)) (flat_begin setup).harts (start_world setup) m.world es s first made.run in
     let count : 0 + length es ≡ length es = omega arith in (
       subst (λ (k : ℕ). Sound setup k (flat_end (flat_start (start_byte image)) es) m.world) count r.sound,
-      flat_from image (flat_begin image m.instructions) (flat_begin image m.instructions).harts es (λ q. record { same = refl; cause = refl }) r.harts_run r.answered,
+      flat_from image (flat_begin setup) (flat_begin setup).harts es (λ q. record { same = refl; cause = refl }) r.harts_run r.answered,
     )
 
 -- ------------------------------------------------------------ what one step may rely on
@@ -123,26 +128,26 @@ block_there image m h access f needs none =
 pub act_there : (image : ImageState) (m : MachineState) (a : ℕ) (x : Seat NodeState) → IsMade image m → slice_get m.world.seats a ≡ Some x → can_act_of x.local ≡ Ok tt → act_of (setup_in image m) x.local ≢ None
 act_there image m a x made there can none = at x.local.hart.cause x.local.request refl refl can none
   where
-    copy : (access : Access) (block : Block) (c : Option (Option Line)) → slice_get x.local.copies (block_number m.frames block) ≡ c → block_number m.frames block < length x.local.copies → by_copy image x.local access (block_number m.frames block) block c ≡ None → ⊥
-    copy access block None e lt h = let k : (y : Option Line) × (slice_get x.local.copies (block_number m.frames block) ≡ Some y) = slice_get_some x.local.copies (block_number m.frames block) lt in let k1 : slice_get x.local.copies (block_number m.frames block) ≡ Some k.0 = k.1 in cc
+    copy : (access : Access) (block : Block) (c : Option (Option Line)) → slice_get x.local.copies (block_number m.settings.frames block) ≡ c → block_number m.settings.frames block < length x.local.copies → by_copy image x.local access (block_number m.settings.frames block) block c ≡ None → ⊥
+    copy access block None e lt h = let k : (y : Option Line) × (slice_get x.local.copies (block_number m.settings.frames block) ≡ Some y) = slice_get_some x.local.copies (block_number m.settings.frames block) lt in let k1 : slice_get x.local.copies (block_number m.settings.frames block) ≡ Some k.0 = k.1 in cc
     copy access block (Some None) e lt h = cc
     copy access block (Some (Some line)) e lt h = cc
 
-    inside : (access : Access) (block : Block) → block_at m.layout (addr_of access) ≡ Some block → block_number m.frames block < length x.local.copies
+    inside : (access : Access) (block : Block) → block_at m.layout (addr_of access) ≡ Some block → block_number m.settings.frames block < length x.local.copies
     inside access block is =
         let good : IsSetup (setup_in image m) = good_setup image m made.2.fits in
         let s : Sound (setup_in image m) (length made.1) (flat_end (flat_start (start_byte image)) made.1) m.world = (made_sound image m made.0 made.1 made.2).0 in
         let p : (i : ℕ) × Place m.layout (addr_of access) block i = place_of m.layout (addr_of access) block good.one is in
         let same : x ≡ s.seat = (seat_zero (setup_in image m) (length made.1) (flat_end (flat_start (start_byte image)) made.1) m.world a x s there).1 in
-        let sizes : Sizes m.frames x.local = subst (λ (y : Seat NodeState). Sizes m.frames y.local) (sym same) s.node.sizes in
-        let number : block_number m.frames block ≡ p.0 * 32 + addr_of access / 128 % 32 = (numbers m.layout (addr_of access) m.frames block p.0 p.1).0 in
+        let sizes : Sizes m.settings.frames x.local = subst (λ (y : Seat NodeState). Sizes m.settings.frames y.local) (sym same) s.node.sizes in
+        let number : block_number m.settings.frames block ≡ p.0 * 32 + addr_of access / 128 % 32 = (numbers m.layout (addr_of access) m.settings.frames block p.0 p.1).0 in
         let i_lt : p.0 < length m.layout.pages = p.1.inside in
-        let room : length m.layout.pages ≤ m.frames = good.room in
+        let room : length m.layout.pages ≤ m.settings.frames = good.room in
         rw sizes.copies (omega arith)
 
     place : (access : Access) (b : Option Block) → need_of image x.local.hart ≡ need.Access access → block_at m.layout (addr_of access) ≡ b → by_block (setup_in image m) x.local access b ≡ None → ⊥
     place access None needs e h = block_there image m x.local.hart access made.2.fits needs e
-    place access (Some block) needs e h = copy access block (slice_get x.local.copies (block_number m.frames block)) refl (inside access block e) h
+    place access (Some block) needs e h = copy access block (slice_get x.local.copies (block_number m.settings.frames block)) refl (inside access block e) h
 
     needs : (d : Need) → need_of image x.local.hart ≡ d → by_need (setup_in image m) x.local d ≡ None → ⊥
     needs need.Plain e h = cc
@@ -172,7 +177,7 @@ take_row image m a x i message made there found =
 kind_low : (setup : Setup) (n : ℕ) (flat : Flat) (x : NodeState) (ms : List (Msg Kind)) (m : Msg Kind) → n < 2 ^ 56 → NodeSound setup n flat x ms → ms ≡ m ∷ [] → IsLow m.kind
 kind_low setup n flat x ms m few s one = at x.request s.going
   where
-    by_kind : (block : Block) (k : Kind) → Asks setup.frames x block k → IsLow k
+    by_kind : (block : Block) (k : Kind) → Asks setup.settings.frames x block k → IsLow k
     by_kind block (ReadEx asked) a = tt
     by_kind block (ExclusiveReply asked line acks) a = let h : line.stores ≤ n = s.low.lines (home_number block) line a.2 in omega arith
 

@@ -52,20 +52,20 @@ pub record Waits (setup : Setup) (x : NodeState) (ms : List (Msg Kind)) (block :
   pub access : Access
   pub needed : need_of setup.image x.hart ≡ need.Access access
   pub asked_for : block_at setup.layout (addr_of access) ≡ Some block
-  pub absent : slice_get x.copies (block_number setup.frames block) ≡ Some None
+  pub absent : slice_get x.copies (block_number setup.settings.frames block) ≡ Some None
   pub message : Msg Kind
   pub one : ms ≡ message ∷ []
   pub receiver : message.to ≡ 0
   pub sender : message.id.sender ≡ 0
-  pub asks : Asks setup.frames x block message.kind
+  pub asks : Asks setup.settings.frames x block message.kind
 
 -- a message is in flight exactly while the node waits
 abbrev pub Going : Setup → NodeState → List (Msg Kind) → Option Block → Type 0
-Going setup x ms None = (ms ≡ []) × Free setup.frames x (λ j. false)
+Going setup x ms None = (ms ≡ []) × Free setup.settings.frames x (λ j. false)
 Going setup x ms (Some block) = Waits setup x ms block
 
 pub record NodeSound (setup : Setup) (n : ℕ) (flat : Flat) (x : NodeState) (ms : List (Msg Kind)) : Type 0 where
-  pub sizes : Sizes setup.frames x
+  pub sizes : Sizes setup.settings.frames x
   pub holds : Holds setup flat x
   pub low : Low n x
   pub going : Going setup x ms x.request

@@ -20,13 +20,13 @@ below_get : (n j : ℕ) → j < n → slice_get (below n) j ≡ Some j
 below_get n j lt = let size : length (below n) ≡ n = below_length n in let here : get_or (below n) j 0 ≡ j = below_at n j lt in rw (slice_get-get_or (below n) j 0 (omega arith), here) refl
 
 -- the home's line with a number
-line_get : (setup : Setup) (j : ℕ) → j < setup.frames * 32 → slice_get (home_lines setup 0) j ≡ Some (home_line_of setup.image setup.layout 0 j)
+line_get : (setup : Setup) (j : ℕ) → j < setup.settings.frames * 32 → slice_get (home_lines setup 0) j ≡ Some (home_line_of setup.image setup.layout 0 j)
 unfolding home_lines
-line_get setup j lt = rw (slice_get-map (home_line_of setup.image setup.layout 0) (below (setup.frames * 32)) j, below_get (setup.frames * 32) j lt) refl
+line_get setup j lt = rw (slice_get-map (home_line_of setup.image setup.layout 0) (below (setup.settings.frames * 32)) j, below_get (setup.settings.frames * 32) j lt) refl
 
-lines_length : (setup : Setup) → length (home_lines setup 0) ≡ setup.frames * 32
+lines_length : (setup : Setup) → length (home_lines setup 0) ≡ setup.settings.frames * 32
 unfolding home_lines
-lines_length setup = length-map (below (setup.frames * 32)) (home_line_of setup.image setup.layout 0) ∙ below_length (setup.frames * 32)
+lines_length setup = length-map (below (setup.settings.frames * 32)) (home_line_of setup.image setup.layout 0) ∙ below_length (setup.settings.frames * 32)
 
 placed_low : (image : ImageState) (k : ℕ) (o : Option ℕ) → (placed_line image k o).stores ≡ 0
 placed_low image k None = refl
@@ -39,14 +39,14 @@ line_held : (copies : Option (Option Line)) (home : Option Line) (line : Line) �
 line_held copies home line c h = ap (λ (x : Option (Option Line)). held_by x home) c ∙ ap (λ (x : Option Line). held_by (Some None) x) h
 
 -- each block's line at the start is the program's
-held_start : (setup : Setup) → IsSetup setup → (copies : List (Option Line)) → copies ≡ replicate (setup.layout.nodes * setup.frames * 32) None → (i k : ℕ) → i < length setup.layout.pages → k < 32 →
+held_start : (setup : Setup) → IsSetup setup → (copies : List (Option Line)) → copies ≡ replicate (setup.layout.nodes * setup.settings.frames * 32) None → (i k : ℕ) → i < length setup.layout.pages → k < 32 →
     held_by (slice_get copies (i * 32 + k)) (slice_get (home_lines setup 0) (i * 32 + k)) ≡ start_line (start_byte setup.image) (get_or setup.layout.pages i 0 * 32 + k)
 held_start setup good copies none i k hi hk =
-    let room : length setup.layout.pages ≤ setup.frames = good.room in
+    let room : length setup.layout.pages ≤ setup.settings.frames = good.room in
     let one : setup.layout.nodes ≡ 1 = good.one in
-    let low : i * 32 + k < setup.frames * 32 = omega arith in
-    let size : setup.layout.nodes * setup.frames * 32 ≡ setup.frames * 32 = rw one (omega arith) in
-    let copy : slice_get copies (i * 32 + k) ≡ Some None = rw (none, size) (replicate_get (setup.frames * 32) (i * 32 + k) None low) in
+    let low : i * 32 + k < setup.settings.frames * 32 = omega arith in
+    let size : setup.layout.nodes * setup.settings.frames * 32 ≡ setup.settings.frames * 32 = rw one (omega arith) in
+    let copy : slice_get copies (i * 32 + k) ≡ Some None = rw (none, size) (replicate_get (setup.settings.frames * 32) (i * 32 + k) None low) in
     let number : (i * 32 + k) / 32 * setup.layout.nodes + 0 ≡ i = rw one (omega arith) in
     let offset : (i * 32 + k) % 32 ≡ k = omega arith in
     let page : slice_get setup.layout.pages i ≡ Some (get_or setup.layout.pages i 0) = slice_get-get_or setup.layout.pages i 0 hi in
@@ -69,22 +69,22 @@ no_copy n j line is =
     let none : slice_get (replicate {A = Option Line} n None) j ≡ Some None = replicate_get n j None (rw length-replicate at lt) in
     cc
 
-pub seats_one : (setup : Setup) → IsSetup setup → (instructions : ℕ) → (start_world setup instructions).seats ≡ new_seat setup instructions 0 ∷ []
+pub seats_one : (setup : Setup) → IsSetup setup → (start_world setup).seats ≡ new_seat setup 0 ∷ []
 unfolding below
-seats_one setup good instructions = rw good.one refl
+seats_one setup good = rw good.one refl
 
-pub start_sound : (setup : Setup) → IsSetup setup → (instructions : ℕ) → Sound setup 0 (flat_start (start_byte setup.image)) (start_world setup instructions)
-start_sound setup good instructions =
+pub start_sound : (setup : Setup) → IsSetup setup → Sound setup 0 (flat_start (start_byte setup.image)) (start_world setup)
+start_sound setup good =
     let one : setup.layout.nodes ≡ 1 = good.one in
-    let size : setup.layout.nodes * setup.frames * 32 ≡ setup.frames * 32 = rw one (omega arith) in
+    let size : setup.layout.nodes * setup.settings.frames * 32 ≡ setup.settings.frames * 32 = rw one (omega arith) in
     record {
-      seat = new_seat setup instructions 0;
-      one = seats_one setup good instructions;
+      seat = new_seat setup 0;
+      one = seats_one setup good;
       node = record {
         sizes = record { copies = rw length-replicate size; entries = rw length-replicate refl; lines = lines_length setup };
-        holds = record { line = λ i k hi hk. held_start setup good (replicate (setup.layout.nodes * setup.frames * 32) None) refl i k hi hk; reserved = refl };
-        low = record { copies = λ j line is. absurd (no_copy (setup.layout.nodes * setup.frames * 32) j line is); lines = start_low setup good };
-        going = (refl, λ j hj absent never. replicate_get (setup.frames * 32) j Unowned hj);
+        holds = record { line = λ i k hi hk. held_start setup good (replicate (setup.layout.nodes * setup.settings.frames * 32) None) refl i k hi hk; reserved = refl };
+        low = record { copies = λ j line is. absurd (no_copy (setup.layout.nodes * setup.settings.frames * 32) j line is); lines = start_low setup good };
+        going = (refl, λ j hj absent never. replicate_get (setup.settings.frames * 32) j Unowned hj);
       };
       young = record { clock = omega arith; next = omega arith; messages = tt };
     }

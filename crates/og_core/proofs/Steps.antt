@@ -59,46 +59,46 @@ absent_put copies b j line lt is = at (cases_Bool (nat_eq j b)) (rw (get_put cop
 
 module _ (setup : Setup) (flat : Flat) (x : NodeState) (line : Line) (access : Access) (block : Block) (i : ℕ)
     (up : IsStrictlyIncreasing setup.layout.pages) (place : Place setup.layout (addr_of access) block i)
-    (sizes : Sizes setup.frames x) (room : length setup.layout.pages ≤ setup.frames) where
-  pub number_inside : block_number setup.frames block < setup.frames * 32
+    (sizes : Sizes setup.settings.frames x) (room : length setup.layout.pages ≤ setup.settings.frames) where
+  pub number_inside : block_number setup.settings.frames block < setup.settings.frames * 32
   number_inside =
-      let n : block_number setup.frames block ≡ i * 32 + addr_of access / 128 % 32 = (numbers setup.layout (addr_of access) setup.frames block i place).0 in
+      let n : block_number setup.settings.frames block ≡ i * 32 + addr_of access / 128 % 32 = (numbers setup.layout (addr_of access) setup.settings.frames block i place).0 in
       let inside : i < length setup.layout.pages = place.inside in
       omega arith
 
   -- what the access finds is the flat memory's line
-  pub found : Holds setup flat x → held x (block_number setup.frames block) ≡ flat.memory (block_of access)
+  pub found : Holds setup flat x → held x (block_number setup.settings.frames block) ≡ flat.memory (block_of access)
   found holds =
-      let n : (block_number setup.frames block ≡ i * 32 + addr_of access / 128 % 32) × (home_number block ≡ i * 32 + addr_of access / 128 % 32) = numbers setup.layout (addr_of access) setup.frames block i place in
+      let n : (block_number setup.settings.frames block ≡ i * 32 + addr_of access / 128 % 32) × (home_number block ≡ i * 32 + addr_of access / 128 % 32) = numbers setup.layout (addr_of access) setup.settings.frames block i place in
       let m : get_or setup.layout.pages i 0 * 32 + addr_of access / 128 % 32 ≡ addr_of access / 128 = flat_number setup.layout (addr_of access) block i place in
       let h : held x (i * 32 + addr_of access / 128 % 32) ≡ flat.memory (get_or setup.layout.pages i 0 * 32 + addr_of access / 128 % 32) = holds.line i (addr_of access / 128 % 32) place.inside (omega arith) in
       ap (λ (j : ℕ). held x j) n.0 ∙ h ∙ ap (λ (j : ℕ). flat.memory j) m
 
   -- another block of the machine is another block of the flat memory
-  apart : (j l : ℕ) → j < length setup.layout.pages → l < 32 → get_or setup.layout.pages j 0 * 32 + l ≡ block_of access → j * 32 + l ≢ block_number setup.frames block → ⊥
+  apart : (j l : ℕ) → j < length setup.layout.pages → l < 32 → get_or setup.layout.pages j 0 * 32 + l ≡ block_of access → j * 32 + l ≢ block_number setup.settings.frames block → ⊥
   apart j l hj hl p q =
-      let n : block_number setup.frames block ≡ i * 32 + addr_of access / 128 % 32 = (numbers setup.layout (addr_of access) setup.frames block i place).0 in
+      let n : block_number setup.settings.frames block ≡ i * 32 + addr_of access / 128 % 32 = (numbers setup.layout (addr_of access) setup.settings.frames block i place).0 in
       let page : get_or setup.layout.pages i 0 ≡ addr_of access / 4096 = place.page in
       let number : l ≡ addr_of access / 128 % 32 = omega arith in
       let same : get_or setup.layout.pages j 0 ≡ get_or setup.layout.pages i 0 = omega arith in
       let index : j ≡ i = one_page setup.layout.pages j i up hj place.inside same in
       q (rw (index, number) (sym n))
 
-  pub completed_sizes : Sizes setup.frames (completed setup.image x (block_number setup.frames block) line access)
+  pub completed_sizes : Sizes setup.settings.frames (completed setup.image x (block_number setup.settings.frames block) line access)
   completed_sizes = record { copies = rw length-set sizes.copies; entries = sizes.entries; lines = sizes.lines }
 
-  pub completed_holds : Holds setup flat x → line ≡ flat.memory (block_of access) → Holds setup (flat_next flat 0 access) (completed setup.image x (block_number setup.frames block) line access)
+  pub completed_holds : Holds setup flat x → line ≡ flat.memory (block_of access) → Holds setup (flat_next flat 0 access) (completed setup.image x (block_number setup.settings.frames block) line access)
   completed_holds holds same =
       let after : line_after line x.reserved access ≡ line_after (flat.memory (block_of access)) (flat.reserved 0) access = ap (λ (l : Line). line_after l x.reserved access) same ∙ ap (λ (r : Option Reservation). line_after (flat.memory (block_of access)) r access) holds.reserved in
       let kept : reservation_after line x.reserved access ≡ reservation_after (flat.memory (block_of access)) (flat.reserved 0) access = ap (λ (l : Line). reservation_after l x.reserved access) same ∙ ap (λ (r : Option Reservation). reservation_after (flat.memory (block_of access)) r access) holds.reserved in
-      record { line = λ j l hj hl. at j l hj hl holds after (cases_Bool (nat_eq (j * 32 + l) (block_number setup.frames block))); reserved = kept }
+      record { line = λ j l hj hl. at j l hj hl holds after (cases_Bool (nat_eq (j * 32 + l) (block_number setup.settings.frames block))); reserved = kept }
     where
       at : (j l : ℕ) → j < length setup.layout.pages → l < 32 → Holds setup flat x → line_after line x.reserved access ≡ line_after (flat.memory (block_of access)) (flat.reserved 0) access →
-          ((nat_eq (j * 32 + l) (block_number setup.frames block) ≡ true) ⊎ (nat_eq (j * 32 + l) (block_number setup.frames block) ≡ false)) →
-          held (completed setup.image x (block_number setup.frames block) line access) (j * 32 + l) ≡ (flat_next flat 0 access).memory (get_or setup.layout.pages j 0 * 32 + l)
+          ((nat_eq (j * 32 + l) (block_number setup.settings.frames block) ≡ true) ⊎ (nat_eq (j * 32 + l) (block_number setup.settings.frames block) ≡ false)) →
+          held (completed setup.image x (block_number setup.settings.frames block) line access) (j * 32 + l) ≡ (flat_next flat 0 access).memory (get_or setup.layout.pages j 0 * 32 + l)
       at j l hj hl holds after (inl e) =
-          let b : ℕ = block_number setup.frames block in
-          let n : b ≡ i * 32 + addr_of access / 128 % 32 = (numbers setup.layout (addr_of access) setup.frames block i place).0 in
+          let b : ℕ = block_number setup.settings.frames block in
+          let n : b ≡ i * 32 + addr_of access / 128 % 32 = (numbers setup.layout (addr_of access) setup.settings.frames block i place).0 in
           let q : j * 32 + l ≡ b = grind (arith, nat_tests) in
           let both : (j ≡ i) × (l ≡ addr_of access / 128 % 32) = other_number j i l (addr_of access / 128 % 32) hl (omega arith) (omega arith) in
           let m : get_or setup.layout.pages i 0 * 32 + addr_of access / 128 % 32 ≡ addr_of access / 128 = flat_number setup.layout (addr_of access) block i place in
@@ -107,26 +107,26 @@ module _ (setup : Setup) (flat : Flat) (x : NodeState) (line : Line) (access : A
           held_same x.copies (slice_get x.lines (j * 32 + l)) b (j * 32 + l) (line_after line x.reserved access) lt q ∙ after
           ∙ sym (with_same flat.memory (block_of access) (line_after (flat.memory (block_of access)) (flat.reserved 0) access) (get_or setup.layout.pages j 0 * 32 + l) p)
       at j l hj hl holds after (inr e) =
-          let b : ℕ = block_number setup.frames block in
+          let b : ℕ = block_number setup.settings.frames block in
           let q : j * 32 + l ≢ b = grind (arith, nat_tests) in
           let lt : b < length x.copies = rw sizes.copies number_inside in
           held_other x.copies (slice_get x.lines (j * 32 + l)) b (j * 32 + l) (line_after line x.reserved access) lt q ∙ holds.line j l hj hl
           ∙ sym (with_other flat.memory (block_of access) (line_after (flat.memory (block_of access)) (flat.reserved 0) access) (get_or setup.layout.pages j 0 * 32 + l) (λ p. apart j l hj hl p q))
 
-  pub completed_low : (n : ℕ) → Low n x → line.stores ≤ n → Low (n + 1) (completed setup.image x (block_number setup.frames block) line access)
+  pub completed_low : (n : ℕ) → Low n x → line.stores ≤ n → Low (n + 1) (completed setup.image x (block_number setup.settings.frames block) line access)
   completed_low n low few =
-      let lt : block_number setup.frames block < length x.copies = rw sizes.copies number_inside in
+      let lt : block_number setup.settings.frames block < length x.copies = rw sizes.copies number_inside in
       record {
-        copies = λ j l is. low_put n (block_number setup.frames block) j x.copies (line_after line x.reserved access) l lt (let h : (line_after line x.reserved access).stores ≤ line.stores + 1 = stores_after line x.reserved access in omega arith) low.copies is;
+        copies = λ j l is. low_put n (block_number setup.settings.frames block) j x.copies (line_after line x.reserved access) l lt (let h : (line_after line x.reserved access).stores ≤ line.stores + 1 = stores_after line x.reserved access in omega arith) low.copies is;
         lines = λ j l is. let h : l.stores ≤ n = low.lines j l is in omega arith;
       }
 
-  pub completed_free : (granted : ℕ → Bool) → Free setup.frames x granted → ((j : ℕ) → granted j ≡ true → j ≡ block_number setup.frames block) → Free setup.frames (completed setup.image x (block_number setup.frames block) line access) (λ j. false)
+  pub completed_free : (granted : ℕ → Bool) → Free setup.settings.frames x granted → ((j : ℕ) → granted j ≡ true → j ≡ block_number setup.settings.frames block) → Free setup.settings.frames (completed setup.image x (block_number setup.settings.frames block) line access) (λ j. false)
   completed_free granted free only j hj absent never =
-      let lt : block_number setup.frames block < length x.copies = rw sizes.copies number_inside in
-      let h : (j ≢ block_number setup.frames block) × (slice_get x.copies j ≡ Some None) = absent_put x.copies (block_number setup.frames block) j (line_after line x.reserved access) lt absent in
+      let lt : block_number setup.settings.frames block < length x.copies = rw sizes.copies number_inside in
+      let h : (j ≢ block_number setup.settings.frames block) × (slice_get x.copies j ≡ Some None) = absent_put x.copies (block_number setup.settings.frames block) j (line_after line x.reserved access) lt absent in
       free j hj h.1 (at (cases_Bool (granted j)) h.0)
     where
-      at : ((granted j ≡ true) ⊎ (granted j ≡ false)) → j ≢ block_number setup.frames block → granted j ≡ false
+      at : ((granted j ≡ true) ⊎ (granted j ≡ false)) → j ≢ block_number setup.settings.frames block → granted j ≡ false
       at (inl e) ne = absurd (ne (only j e))
       at (inr e) ne = e

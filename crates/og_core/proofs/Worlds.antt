@@ -11,7 +11,7 @@ use Rattle.og_runs.specs.declared.Msg.{Msg}
 use Rattle.og_runs.specs.declared.MsgId.{MsgId}
 use Rattle.og_runs.specs.declared.Seat.{Seat}
 use Rattle.og_runs.specs.Runs.{Outcome, posted, clock_after, event_of, same_id}
-use Rattle.og_runs.specs.World.{World, find, without, world_step, world_move, world_take, world_move_with, world_after, seat_after, flight_after}
+use Rattle.og_runs.specs.World.{World, find, without, placed, placed_all, precedes, world_step, world_move, world_take, world_move_with, world_after, seat_after, flight_after}
 use Rattle.og_base.specs.declared.Block.{Block}
 use Rattle.og_core.specs.declared.msg.Kind.{Kind}
 use Rattle.og_core.specs.declared.msg.Note.{Note}
@@ -25,9 +25,17 @@ clocks_more : (n : ℕ) (ms : List (Msg Kind)) → Clocks n ms → Clocks (n + 1
 clocks_more n [] h = tt
 clocks_more n (m ∷ ms) h = let c : m.stamp.clock ≤ n = h.0 in (omega arith, clocks_more n ms h.1)
 
-clocks_append : (n : ℕ) (ms ns : List (Msg Kind)) → Clocks n ms → Clocks n ns → Clocks n (ms ++ ns)
-clocks_append n [] ns h k = k
-clocks_append n (m ∷ ms) ns h k = (h.0, clocks_append n ms ns h.1 k)
+clocks_placed : (n : ℕ) (m : Msg Kind) (ms : List (Msg Kind)) → m.stamp.clock ≤ n → Clocks n ms → Clocks n (placed m ms)
+clocks_placed n m [] le h = (le, tt)
+clocks_placed n m (x ∷ xs) le h = at (precedes x m) (clocks_placed n m xs le h.1)
+  where
+    at : (b : Bool) → Clocks n (placed m xs) → Clocks n (cond b (x ∷ placed m xs) (m ∷ x ∷ xs))
+    at true k = (h.0, k)
+    at false k = (le, h)
+
+clocks_all : (n : ℕ) (ms ns : List (Msg Kind)) → Clocks n ms → Clocks n ns → Clocks n (placed_all ms ns)
+clocks_all n ms [] h k = h
+clocks_all n ms (x ∷ xs) h k = clocks_all n (placed x ms) xs (clocks_placed n x ms k.0 h) k.1
 
 clocks_posted : (n a c k : ℕ) (ls : List (Letter Kind)) → c ≤ n → Clocks n (posted a c k ls)
 clocks_posted n a c k [] le = tt
@@ -64,7 +72,7 @@ event_kept setup n flat x move w o one low clock left k m =
         young = record {
           clock = clock;
           next = omega arith;
-          messages = clocks_append (n + 1) (flight_after move w.flight) (posted 0 (clock_after x.clock move) x.next o.letters) (clocks_more n (flight_after move w.flight) left) (clocks_posted (n + 1) 0 (clock_after x.clock move) x.next o.letters clock);
+          messages = clocks_all (n + 1) (flight_after move w.flight) (posted 0 (clock_after x.clock move) x.next o.letters) (clocks_more n (flight_after move w.flight) left) (clocks_posted (n + 1) 0 (clock_after x.clock move) x.next o.letters clock);
         };
       };
       moves = m;
@@ -96,7 +104,7 @@ only_message setup n flat x ms i m s is = at x.request s.going
 itself : (i : MsgId) → same_id i i ≡ true
 itself i = grind (arith, nat_tests)
 
-left_none : (ms : List (Msg Kind)) (m : Msg Kind) → ms ≡ m ∷ [] → without m.id ms ≡ []
+pub left_none : (ms : List (Msg Kind)) (m : Msg Kind) → ms ≡ m ∷ [] → without m.id ms ≡ []
 left_none ms m e = rw (e, itself m.id) refl
 
 pub step_sound : (setup : Setup) → IsSetup setup → (n : ℕ) (flat : Flat) (w u : World NodeState Kind) (c : Choice) (e : Event Note) (s : Sound setup n flat w) → world_step (rules setup) w c ≡ Some (u, e) → Stepped setup n flat s.seat.local.hart u e

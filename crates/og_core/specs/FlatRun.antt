@@ -1,6 +1,6 @@
 -- A flat run: what harts do when their accesses are made one at a time on one flat memory, in the order of a list. It
 -- knows nothing of caches, messages, frames or moves.
-use Rattle.std.specs.Prelude.{◌≡◌, ℕ, zero, suc, Bool, true, false, nat_eq, List, [], ◌∷◌, cond}
+use Rattle.std.specs.Prelude.{◌≡◌, ◌<◌, ℕ, zero, suc, Bool, true, false, nat_eq, List, [], ◌∷◌, cond}
 use Rattle.std.proofs.Common.{Option, None, Some}
 use Rattle.og_flat.specs.Flat.{Flat, flat_answer, flat_next, flat_start}
 use Rattle.og_runs.specs.declared.Event.{Event}
@@ -10,7 +10,7 @@ use Rattle.rv_hart.specs.Hart.{HartState, start_of, need_of, finish_of, halt_of}
 use Rattle.rv_hart.specs.Image.{ImageState, start_byte}
 use Rattle.og_core.specs.declared.msg.Note.{Note}
 use Rattle.og_core.specs.declared.msg.Note.TheVariants as note
-use Rattle.og_core.specs.Node.{stop_note}
+use Rattle.og_core.specs.Node.{Setup, stop_note}
 use Rattle.og_core.specs.Start.{stack_end}
 
 -- a hart finishes instructions while it needs nothing; each uses one up, so it has come as far after as many as are left
@@ -33,12 +33,12 @@ pub record FlatState : Type 0 where
 abbrev pub with_hart : (ℕ → HartState) → ℕ → HartState → ℕ → HartState
 with_hart harts p h q = cond (nat_eq q p) h (harts q)
 
--- a hart that needs this may have this entry in the list
-abbrev pub Entry : FlatState → ℕ → HartState → Need → Note → Type 0
-Entry s p h (need.Access access) (note.Access made answer) = (made ≡ access) × (answer ≡ flat_answer s.flat p access)
-Entry s p h (need.Emit value) (note.Emit emitted) = emitted ≡ value
-Entry s p h (need.Stop cause) noted = noted ≡ stop_note cause h.pc
-Entry s p h other noted = ⊥
+-- what may be noted next of hart p, which needs this
+abbrev pub MayNote : FlatState → ℕ → HartState → Need → Note → Type 0
+MayNote s p h (need.Access access) (note.Access made answer) = (made ≡ access) × (answer ≡ flat_answer s.flat p access)
+MayNote s p h (need.Emit value) (note.Emit emitted) = emitted ≡ value
+MayNote s p h (need.Stop cause) noted = noted ≡ stop_note cause h.pc
+MayNote s p h other noted = ⊥
 
 -- what the entry leaves of the hart and of the memory
 abbrev pub hart_next : ImageState → HartState → Need → Note → HartState
@@ -56,23 +56,28 @@ flat_step image s p noted = record {
   flat = memory_next s.flat p noted;
 }
 
--- the entries are what the harts do, one after another: each is of a hart that isn't stopped, after it has finished
--- what needs nothing
+-- the entries are what the harts do, one after another: each is of a hart that there is and that isn't stopped, after it
+-- has finished what needs nothing
 abbrev pub FlatRunFrom : ImageState → FlatState → List (ℕ × Note) → Type 0
 FlatRunFrom image s [] = Unit {0}
 FlatRunFrom image s (entry ∷ entries) =
-    ((s.harts entry.0).cause ≡ None) × Entry s entry.0 (settled image (s.harts entry.0)) (need_of image (settled image (s.harts entry.0))) entry.1
+    (entry.0 < image.nodes) × ((s.harts entry.0).cause ≡ None) × MayNote s entry.0 (settled image (s.harts entry.0)) (need_of image (settled image (s.harts entry.0))) entry.1
     × FlatRunFrom image (flat_step image s entry.0 entry.1) entries
 
 -- all harts at their entry, and memory as the program says
-abbrev pub flat_begin : ImageState → ℕ → FlatState
-flat_begin image instructions = record {
-  harts = λ p. start_of image.entry p image.nodes (stack_end p) instructions;
-  flat = flat_start (start_byte image);
+abbrev pub flat_begin : Setup → FlatState
+flat_begin setup = record {
+  harts = λ p. start_of setup.image.entry p setup.image.nodes (stack_end p) setup.settings.instructions;
+  flat = flat_start (start_byte setup.image);
 }
 
-abbrev pub FlatRun : ImageState → ℕ → List (ℕ × Note) → Type 0
-FlatRun image instructions entries = FlatRunFrom image (flat_begin image instructions) entries
+abbrev pub FlatRun : Setup → List (ℕ × Note) → Type 0
+FlatRun setup entries = FlatRunFrom setup.image (flat_begin setup) entries
+
+-- harts and memory after the entries
+abbrev pub flat_after : ImageState → FlatState → List (ℕ × Note) → FlatState
+flat_after image s [] = s
+flat_after image s (entry ∷ entries) = flat_after image (flat_step image s entry.0 entry.1) entries
 
 -- ------------------------------------------------------------ the notes of harts in a list of events
 

@@ -1,5 +1,5 @@
 -- What harts do in a run of any machine, and when their accesses have the flat memory's answers.
-use Rattle.std.specs.Prelude.{◌≡◌, ℕ, ◌⊎◌, List, [], ◌∷◌}
+use Rattle.std.specs.Prelude.{◌≡◌, ◌<◌, ℕ, true, ◌⊎◌, List, [], ◌∷◌}
 use Rattle.std.proofs.Common.{Option, None, Some}
 use Rattle.og_base.specs.declared.Cause.{Cause}
 use Rattle.og_flat.specs.Flat.{Flat, flat_answer, flat_next}
@@ -10,7 +10,7 @@ use Rattle.rv_hart.specs.Image.{ImageState}
 use Rattle.og_core.specs.declared.msg.Note.{Note}
 use Rattle.og_core.specs.declared.msg.Note.TheVariants as note
 use Rattle.og_core.specs.Node.{stop_note}
-use Rattle.og_core.specs.FlatRun.{with_hart}
+use Rattle.og_core.specs.FlatRun.{with_hart, of_hart}
 
 -- the hart isn't stopped, needs to stop, does so, and this is noted
 abbrev pub Stops : ImageState → HartState → Note → HartState → Type 0
@@ -27,10 +27,15 @@ HartMove image h (Some (note.Trap cause pc)) after = Stops image h (note.Trap ca
 HartMove image h (Some note.Spent) after = Stops image h note.Spent after
 HartMove image h (Some other) after = after ≡ h
 
+-- what is noted of a hart is noted of one that there is
+abbrev pub IsNotedInside : ℕ → ℕ → Option Note → Type 0
+IsNotedInside nodes p None = Unit {0}
+IsNotedInside nodes p (Some noted) = of_hart noted ≡ true → p < nodes
+
 -- the events lead the harts from one state to another, each event its actor's hart
 abbrev pub HartsRun : ImageState → (ℕ → HartState) → List (Event Note) → Type 0
 HartsRun image harts [] = Unit {0}
-HartsRun image harts (event ∷ events) = (after : HartState) × HartMove image (harts event.stamp.actor) event.note after × HartsRun image (with_hart harts event.stamp.actor after) events
+HartsRun image harts (event ∷ events) = (after : HartState) × IsNotedInside image.nodes event.stamp.actor event.note × HartMove image (harts event.stamp.actor) event.note after × HartsRun image (with_hart harts event.stamp.actor after) events
 
 -- the flat memory after what was noted of an actor
 abbrev pub flat_noted : Flat → ℕ → Option Note → Flat

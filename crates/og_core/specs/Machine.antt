@@ -1,8 +1,9 @@
 -- The machine of all nodes: what contracts see of it, its start, which choices are enabled, and where it is quiet.
-use Rattle.std.specs.Prelude.{◌≡◌, ℕ, ◌≤◌, ◌<◌, ◌^◌, Bool, ◌&&◌, nat_eq, List, [], ◌++◌, length, slice_get, map, cond, Result, Ok, Err}
+use Rattle.std.specs.Prelude.{◌≡◌, ℕ, ◌≤◌, ◌<◌, ◌^◌, Bool, ◌&&◌, nat_eq, List, [], length, slice_get, map, cond, Result, Ok, Err}
 use Rattle.std.specs.List.{list_all}
 use Rattle.std.specs.Option.{is_some}
 use Rattle.std.proofs.Common.{Option, None, Some}
+use Rattle.og_base.specs.Settings.{SettingsState}
 use Rattle.og_base.specs.declared.NotEnabled.{NotEnabled}
 use Rattle.og_base.specs.declared.NotEnabled.TheVariants.{NoActor, NoMessage}
 use Rattle.og_runs.specs.declared.Choice.{Choice}
@@ -12,7 +13,7 @@ use Rattle.og_runs.specs.declared.Msg.{Msg}
 use Rattle.og_runs.specs.declared.Event.{Event}
 use Rattle.og_runs.specs.declared.Seat.{Seat}
 use Rattle.og_runs.specs.Runs.{Outcome, posted, clock_after, event_of}
-use Rattle.og_runs.specs.World.{World, WorldRun, find, seat_after, flight_after}
+use Rattle.og_runs.specs.World.{World, WorldRun, find, seat_after, placed_all}
 use Rattle.rv_hart.specs.Image.{ImageState, IsLoadable}
 use Rattle.rv_hart.specs.Layout.{LayoutState, layout_of, pages_of, below}
 use Rattle.og_core.specs.declared.msg.Kind.{Kind}
@@ -26,33 +27,30 @@ Machines = World NodeState Kind
 abbrev pub Events : Type 0
 Events = List (Event Note)
 
--- what contracts see of a machine: where its pages stand, its frames a node and instructions a hart, and its actors
--- and messages
+-- what contracts see of a machine: where its pages stand, its settings, and its actors and messages
 pub record MachineState : Type 0 where
   pub layout : LayoutState
-  pub frames : ℕ
-  pub instructions : ℕ
+  pub settings : SettingsState
   pub world : World NodeState Kind
 
 abbrev pub setup_in : ImageState → MachineState → Setup
-setup_in image m = setup_of image m.layout m.frames
+setup_in image m = setup_of image m.layout m.settings
 
 -- ------------------------------------------------------------ start and runs
 
-abbrev pub new_seat : Setup → ℕ → ℕ → Seat NodeState
-new_seat setup instructions node = record { local = start_node setup node instructions; clock = 0; next = 0 }
+abbrev pub new_seat : Setup → ℕ → Seat NodeState
+new_seat setup node = record { local = start_node setup node; clock = 0; next = 0 }
 
 -- all actors new, and no message in flight
-abbrev pub start_world : Setup → ℕ → World NodeState Kind
-start_world setup instructions = record { seats = map (new_seat setup instructions) (below setup.layout.nodes); flight = [] }
+abbrev pub start_world : Setup → World NodeState Kind
+start_world setup = record { seats = map (new_seat setup) (below setup.layout.nodes); flight = [] }
 
 -- the machine of a program at its start
-abbrev pub start_of : ImageState → ℕ → ℕ → MachineState
-start_of image frames instructions = record {
+abbrev pub start_of : ImageState → SettingsState → MachineState
+start_of image settings = record {
   layout = layout_of image;
-  frames = frames;
-  instructions = instructions;
-  world = start_world (setup_of image (layout_of image) frames) instructions;
+  settings = settings;
+  world = start_world (setup_of image (layout_of image) settings);
 }
 
 -- a machine for this image, which has one node and enough frames
@@ -60,12 +58,12 @@ pub record IsFor (image : ImageState) (m : MachineState) : Type 0 where
   pub loads : IsLoadable image.entry image.segments
   pub one_node : image.nodes ≡ 1
   pub placed : m.layout ≡ layout_of image
-  pub room : length (pages_of image) ≤ m.frames
+  pub room : length (pages_of image) ≤ m.settings.frames
 
 -- choices from the start lead to the machine, with these events
 pub record MadeBy (image : ImageState) (m : MachineState) (choices : List Choice) (events : List (Event Note)) : Type 0 where
   pub fits : IsFor image m
-  pub run : WorldRun (rules (setup_in image m)) (start_world (setup_in image m) m.instructions) choices m.world events
+  pub run : WorldRun (rules (setup_in image m)) (start_world (setup_in image m)) choices m.world events
 
 -- some choices from the start lead to the machine
 abbrev pub IsMade : ImageState → MachineState → Type 0
@@ -78,12 +76,13 @@ pub record IsYoungWorld (w : World NodeState Kind) : Type 0 where
 
 -- ------------------------------------------------------------ one event
 
--- the actor's seat x becomes y and the flight ms becomes ns, with this event, by an act (None) or a take that gives what is said
+-- the actor's seat x becomes y, with this event, by an act (None) or a take that gives what is said; what was in flight but
+-- for a message that was taken, ms, becomes ns
 pub record Moves (actor : ℕ) (move : Option (Msg Kind)) (gives : Gives) (x y : Seat NodeState) (ms ns : List (Msg Kind)) (event : Event Note) : Type 0 where
   pub outcome : Outcome NodeState Kind Note
   pub given : gives ≡ Some outcome
   pub seat : y ≡ seat_after x move outcome
-  pub flight : ns ≡ flight_after move ms ++ posted actor (clock_after x.clock move) x.next outcome.letters
+  pub flight : ns ≡ placed_all ms (posted actor (clock_after x.clock move) x.next outcome.letters)
   pub event_is : event ≡ event_of actor x.clock move outcome
 
 -- ------------------------------------------------------------ which choices are enabled

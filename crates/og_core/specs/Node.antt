@@ -3,6 +3,7 @@ use Rattle.std.specs.Prelude.{◌≡◌, ◌<◌, ◌^◌, ℕ, Result, Ok, Err,
 use Rattle.std.proofs.Common.{Option, None, Some}
 use Rattle.std.specs.Option.{option_map}
 use Rattle.og_base.specs.declared.Block.{Block}
+use Rattle.og_base.specs.Settings.{SettingsState}
 use Rattle.og_base.specs.declared.Cause.{Cause}
 use Rattle.og_base.specs.declared.Cause.TheVariants.{Exit, Spent, Illegal, Fetch, Misaligned, Unmapped, Call, Break}
 use Rattle.og_base.specs.declared.NotEnabled.{NotEnabled}
@@ -27,11 +28,11 @@ use Rattle.og_core.specs.declared.msg.Note.{Note}
 use Rattle.og_core.specs.declared.msg.Note.TheVariants as note
 use Rattle.og_core.specs.declared.node.Done.{Done}
 
--- what stays the same over a run: the program, where its pages stand, and the frames of each node
+-- what stays the same over a run: the program, where its pages stand, and the settings
 pub record Setup : Type 0 where
   pub image : ImageState
   pub layout : LayoutState
-  pub frames : ℕ
+  pub settings : SettingsState
 
 -- a node's own state: its hart and the hart's reservation; the line of each block that it has a copy of; the
 -- block that it asked for; and, of each block whose home it is, the directory entry and the home's line
@@ -71,13 +72,18 @@ pub record IsYoung (x : NodeState) : Type 0 where
   pub copies : (k : ℕ) (line : Line) → slice_get x.copies k ≡ Some (Some line) → line.stores < 2 ^ 63
   pub lines : (k : ℕ) (line : Line) → slice_get x.lines k ≡ Some line → line.stores < 2 ^ 63
 
+-- a message that fills a copy finds a hart that hasn't stopped; what a home serves doesn't ask for one
+abbrev pub RunsWhereFilled : NodeState → Kind → Type 0
+RunsWhereFilled x (ReadEx block) = Unit {0}
+RunsWhereFilled x (ExclusiveReply block line acks) = x.hart.cause ≡ None
+
 -- a message's line has seen fewer than 2 ^ 63 stores
 abbrev pub IsLow : Kind → Type 0
 IsLow (ReadEx block) = Unit {0}
 IsLow (ExclusiveReply block line acks) = line.stores < 2 ^ 63
 
-abbrev pub setup_of : ImageState → LayoutState → ℕ → Setup
-setup_of image layout frames = record { image = image; layout = layout; frames = frames }
+abbrev pub setup_of : ImageState → LayoutState → SettingsState → Setup
+setup_of image layout settings = record { image = image; layout = layout; settings = settings }
 
 -- ------------------------------------------------------------ an access on a copy
 
@@ -121,7 +127,7 @@ by_copy image x access number block None = None
 
 abbrev pub by_block : Setup → NodeState → Access → Option Block → Gives
 by_block setup x access None = None
-by_block setup x access (Some block) = by_copy setup.image x access (block_number setup.frames block) block (slice_get x.copies (block_number setup.frames block))
+by_block setup x access (Some block) = by_copy setup.image x access (block_number setup.settings.frames block) block (slice_get x.copies (block_number setup.settings.frames block))
 
 abbrev pub by_need : Setup → NodeState → Need → Gives
 by_need setup x need.Plain = Some (record { local = record x { hart = finish_of setup.image x.hart 0 }; letters = []; note = None })
@@ -172,7 +178,7 @@ same_block b c = nat_eq b.frame.home c.frame.home && nat_eq b.frame.index c.fram
 
 abbrev pub by_request : Setup → NodeState → Block → Line → ℕ → Option Block → Gives
 by_request setup x block line acks None = None
-by_request setup x block line acks (Some asked) = cond (same_block asked block && nat_eq acks 0) (by_fill setup.image x (block_number setup.frames block) line (slice_get x.copies (block_number setup.frames block)) (need_of setup.image x.hart)) None
+by_request setup x block line acks (Some asked) = cond (same_block asked block && nat_eq acks 0) (by_fill setup.image x (block_number setup.settings.frames block) line (slice_get x.copies (block_number setup.settings.frames block)) (need_of setup.image x.hart)) None
 
 abbrev pub take_by : Setup → ℕ → NodeState → ℕ → Kind → Gives
 take_by setup node x sender (ReadEx block) = cond (nat_eq block.frame.home node) (by_entry x block (home_number block) sender (slice_get x.entries (home_number block)) (slice_get x.lines (home_number block))) None

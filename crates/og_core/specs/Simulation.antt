@@ -1,9 +1,9 @@
 -- Which choices are enabled, in their order, and which of them a simulation makes.
-use Rattle.std.specs.Prelude.{ℕ, zero, suc, Bool, ◌&&◌, ◌||◌, nat_eq, nat_lt, List, [], ◌∷◌, ◌++◌, slice_get, cond, map, Result, Ok, Err}
-use Rattle.std.specs.List.{filter}
+use Rattle.std.specs.Prelude.{ℕ, zero, suc, List, [], ◌∷◌, ◌++◌, slice_get, cond, map, Result, Ok, Err}
 use Rattle.std.specs.Option.{option_map}
 use Rattle.std.proofs.Common.{Option, None, Some}
 use Rattle.og_base.specs.declared.NotEnabled.{NotEnabled}
+use Rattle.og_flight.specs.Flight.{messages_to, first_sent}
 use Rattle.og_runs.specs.declared.Choice.{Choice}
 use Rattle.og_runs.specs.declared.Choice.TheVariants.{Act, Take}
 use Rattle.og_runs.specs.declared.Event.{Event}
@@ -15,31 +15,14 @@ use Rattle.og_core.specs.declared.msg.Note.{Note}
 use Rattle.og_core.specs.Node.{NodeState, Setup, rules, can_act_of}
 use Rattle.og_core.specs.Machine.{is_stopped}
 
--- messages by sender, then number
-abbrev pub id_before : Msg Kind → Msg Kind → Bool
-id_before m k = nat_lt m.id.sender k.id.sender || (nat_eq m.id.sender k.id.sender && nat_lt m.id.seq k.id.seq)
-
--- messages by clock, then sender, then number
-abbrev pub sent_before : Msg Kind → Msg Kind → Bool
-sent_before m k = nat_lt m.stamp.clock k.stamp.clock || (nat_eq m.stamp.clock k.stamp.clock && id_before m k)
-
-abbrev pub placed_in : (Msg Kind → Msg Kind → Bool) → Msg Kind → List (Msg Kind) → List (Msg Kind)
-placed_in before m [] = m ∷ []
-placed_in before m (k ∷ ks) = cond (before m k) (m ∷ k ∷ ks) (k ∷ placed_in before m ks)
-
--- the messages in an order
-abbrev pub in_order : (Msg Kind → Msg Kind → Bool) → List (Msg Kind) → List (Msg Kind)
-in_order before [] = []
-in_order before (m ∷ ms) = placed_in before m (in_order before ms)
-
 -- an actor's act, where it is enabled
 abbrev pub act_by : ℕ → Result (Unit {0}) NotEnabled → List Choice
 act_by a (Ok u) = Act a ∷ []
 act_by a (Err why) = []
 
--- the takes of an actor: of its messages in flight by sender, then number
+-- the takes of an actor: of its messages in flight, which stand by sender, then number
 abbrev pub takes_of : ℕ → List (Msg Kind) → List Choice
-takes_of a ms = map (λ m. Take a m.id) (in_order id_before (filter (λ m. nat_eq m.to a) ms))
+takes_of a ms = map (λ m. Take a m.id) (messages_to a ms)
 
 abbrev pub enabled_from : ℕ → List (Seat NodeState) → List (Msg Kind) → List Choice
 enabled_from a [] ms = []
@@ -60,7 +43,7 @@ acts_in (x ∷ xs) = act_count (can_act_of x.local)
 
 -- when all harts are stopped, the take of the message that was sent first
 abbrev pub drain_of : World NodeState Kind → Option Choice
-drain_of w = option_map (λ m. Take m.to m.id) (slice_get (in_order sent_before w.flight) 0)
+drain_of w = option_map (λ m. Take m.to m.id) (first_sent w.flight)
 
 -- the next choice of a simulation: while a hart isn't stopped the enabled one, of which a machine of one node has at
 -- most one; afterwards the drain's

@@ -20,18 +20,18 @@ abbrev pub home_line_of : ImageState → LayoutState → ℕ → ℕ → Line
 home_line_of image layout node j = placed_line image (j % 32) (slice_get layout.pages (j / 32 * layout.nodes + node))
 
 unfoldable pub home_lines : Setup → ℕ → List Line
-home_lines setup node = map (home_line_of setup.image setup.layout node) (below (setup.frames * 32))
+home_lines setup node = map (home_line_of setup.image setup.layout node) (below (setup.settings.frames * 32))
 
 -- the address after a hart's stack page
 abbrev pub stack_end : ℕ → ℕ
 stack_end node = (stack_page node + 1) * 4096
 
-abbrev pub start_node : Setup → ℕ → ℕ → NodeState
-start_node setup node instructions = record {
-  hart = start_of setup.image.entry node setup.layout.nodes (stack_end node) instructions;
+abbrev pub start_node : Setup → ℕ → NodeState
+start_node setup node = record {
+  hart = start_of setup.image.entry node setup.layout.nodes (stack_end node) setup.settings.instructions;
   reserved = None;
-  copies = replicate (setup.layout.nodes * setup.frames * 32) None;
+  copies = replicate (setup.layout.nodes * setup.settings.frames * 32) None;
   request = None;
-  entries = replicate (setup.frames * 32) Unowned;
+  entries = replicate (setup.settings.frames * 32) Unowned;
   lines = home_lines setup node;
 }

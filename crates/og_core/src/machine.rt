@@ -1,23 +1,22 @@
 //! The machine: its actors, the messages in flight, and one step.
 
-ghost use Rattle.std.specs.Prelude.{◌≡◌, ◌≢◌, ℕ, ◌+◌, ◌*◌, ◌<◌, ◌≤◌, ◌^◌, ◌++◌, ◌⊎◌, length, slice_get, Option, Some, None, IfOk, OnOk, IfErr, OnErr, vec_len, vec_capacity};
+ghost use Rattle.std.specs.Prelude.{◌≡◌, ◌≢◌, ◌↔◌, ℕ, ◌+◌, ◌*◌, ◌<◌, ◌≤◌, ◌^◌, true, length, map, slice_get, Some, None, IfOk, OnOk, IfErr, OnErr, IfSome};
 ghost use Rattle.og_runs.specs.Runs.{posted};
-ghost use Rattle.og_runs.specs.World.{world_step};
+ghost use Rattle.og_runs.specs.World.{world_step, find, placed_all};
 ghost use Rattle.og_runs.specs.declared.Choice.TheVariants.{Act, Take};
-ghost use Rattle.rv_hart.specs.Layout.{layout_of, pages_of};
-ghost use Rattle.og_core.specs.Node.{letters_of, setup_of, rules, act_of, take_of, IsYoung, IsLow};
-ghost use Rattle.og_core.specs.Machine.{MachineState, Moves, setup_in, start_world, IsFor, IsMade, IsYoungWorld, refusal_of, is_stopped, is_quiet, start_of, new_seat};
+ghost use Rattle.og_base.specs.Settings.{settings_seen};
+ghost use Rattle.rv_hart.specs.Layout.{below, layout_of, pages_of};
+ghost use Rattle.og_core.specs.Node.{letters_of, setup_of, rules, act_of, take_of, IsYoung, IsLow, RunsWhereFilled};
+ghost use Rattle.og_core.specs.Machine.{MachineState, Moves, setup_in, IsMade, IsYoungWorld, refusal_of, is_stopped, is_quiet, start_of, new_seat};
 ghost use Rattle.og_core.specs.Simulation.{acts_in, enabled_of, drain_of, next_choice};
-ghost use Rattle.std.specs.Prelude.{◌↔◌, true};
-ghost use Rattle.rv_hart.specs.Layout.{below};
-ghost use Rattle.std.specs.Prelude.{map};
 
-use crate::msg::{Event, Msg};
+use crate::msg::{Event, Kind, Msg};
 use crate::node::{Done, Node};
 use og_base::{
-    ActorId, Choice, MsgId, NoMemory, NotEnabled, Settings, Stamp, act_stamp, take_stamp,
+    ActorId, Choice, MsgId, NoMemory, NotEnabled, Settings, Stamp, act_stamp, room, take_stamp,
 };
-use og_runs::{Seat, look, pull};
+use og_flight::Flight;
+use og_runs::Seat;
 use rv_hart::image::Image;
 use rv_hart::layout::{Layout, LayoutFault};
 use std::alloc::Global;
@@ -27,26 +26,31 @@ use std::marker::Model;
 #[derive(Drop)]
 pub struct Machine {
     layout: Layout,
-    frames: u16,
-    instructions: u32,
+    settings: Settings,
     seats: Vec<Seat<Node>>,
-    messages: Vec<Msg>,
+    flight: Flight<Kind>,
 }
 
 impl Model for Machine {
+    ghost use Rattle.std.specs.Prelude.{◌≤◌};
+    ghost use Rattle.og_base.specs.Settings.{settings_seen};
     ghost use Rattle.og_core.specs.Machine.{MachineState};
 
     ghost Value = { MachineState };
 
-    ghost view = { λ m. record { layout = m.layout; frames = m.frames; instructions = m.instructions; world = record { seats = m.seats.items; flight = m.messages.items } } };
+    ghost view = { λ m. record { layout = m.layout; settings = settings_seen m.settings; world = record { seats = m.seats.items; flight = m.flight.messages } } };
+
+    ghost invariant = { λ m. 1 ≤ m.flight.room };
 }
 
 /// Ends an event of an actor: its clock becomes the event's, and its letter a message in flight.
-fn settle(seat: &mut Seat<Node>, messages: &mut Vec<Msg>, stamp: Stamp, done: &Done)
-    requires room { vec_len messages.old < vec_capacity messages.old }
+fn settle(seat: &mut Seat<Node>, flight: &mut Flight<Kind>, stamp: Stamp, done: &Done)
+    requires room { length flight.old.messages < flight.old.room }
     requires low { seat.old.next < 2 ^ 56 }
+    requires new { (k : ℕ) → seat.old.next ≤ k → find (record { sender = stamp.actor; seq = k }) flight.old.messages ≡ None }
     ensures seat { seat.new ≡ record { local = seat.old.local; clock = stamp.clock; next = seat.old.next + length (letters_of done.now.letter) } }
-    ensures sent { messages.new.items ≡ messages.old.items ++ posted stamp.actor stamp.clock seat.old.next (letters_of done.now.letter) }
+    ensures sent { flight.new.messages ≡ placed_all flight.old.messages (posted stamp.actor stamp.clock seat.old.next (letters_of done.now.letter)) }
+    ensures room { flight.new.room ≡ flight.old.room }
 {
     seat.clock = stamp.clock;
     if let Some(letter) = done.letter {
@@ -54,7 +58,7 @@ fn settle(seat: &mut Seat<Node>, messages: &mut Vec<Msg>, stamp: Stamp, done: &D
             sender: stamp.actor,
             seq: seat.next,
         };
-        messages.push_reserved(Msg {
+        flight.send(Msg {
             id,
             to: letter.to,
             stamp,
@@ -67,20 +71,22 @@ fn settle(seat: &mut Seat<Node>, messages: &mut Vec<Msg>, stamp: Stamp, done: &D
 /// An actor's own next event.
 fn act_at(
     seat: &mut Seat<Node>,
-    messages: &mut Vec<Msg>,
+    flight: &mut Flight<Kind>,
     image: &Image,
     layout: &Layout,
-    frames: u16,
+    settings: &Settings,
     actor: ActorId,
 ) -> Event
-    requires enabled { act_of (setup_of image.now layout.now frames) seat.old.local ≢ None }
+    requires enabled { act_of (setup_of image.now layout.now (settings_seen settings.now)) seat.old.local ≢ None }
     requires young { (seat.old.clock < 2 ^ 56) × (seat.old.next < 2 ^ 56) × IsYoung seat.old.local }
-    requires room { vec_len messages.old < vec_capacity messages.old }
-    ensures { Moves actor None (act_of (setup_of image.now layout.now frames) seat.old.local) seat.old seat.new messages.old.items messages.new.items result }
+    requires room { length flight.old.messages < flight.old.room }
+    requires new { (k : ℕ) → seat.old.next ≤ k → find (record { sender = actor; seq = k }) flight.old.messages ≡ None }
+    ensures moves { Moves actor None (act_of (setup_of image.now layout.now (settings_seen settings.now)) seat.old.local) seat.old seat.new flight.old.messages flight.new.messages result }
+    ensures room { flight.new.room ≡ flight.old.room }
 {
     let stamp = act_stamp(seat.clock, actor);
-    let done = seat.local.act(image, layout, frames);
-    settle(seat, messages, stamp, &done);
+    let done = seat.local.act(image, layout, settings);
+    settle(seat, flight, stamp, &done);
     Event {
         choice: Choice::Act(actor),
         stamp,
@@ -88,26 +94,27 @@ fn act_at(
     }
 }
 
-/// The event in which an actor takes a message.
+/// The event in which an actor takes a message, which has left the flight.
 fn take_at(
     seat: &mut Seat<Node>,
-    messages: &mut Vec<Msg>,
+    flight: &mut Flight<Kind>,
     image: &Image,
     layout: &Layout,
-    frames: u16,
+    settings: &Settings,
     message: &Msg,
 ) -> Event
-    requires row { take_of (setup_of image.now layout.now frames) message.now.to seat.old.local message.now ≢ None }
-    requires running { seat.old.local.hart.cause ≡ None }
+    requires row { take_of (setup_of image.now layout.now (settings_seen settings.now)) message.now.to seat.old.local message.now ≢ None }
+    requires running { RunsWhereFilled seat.old.local message.now.kind }
     requires young { (seat.old.clock < 2 ^ 56) × (seat.old.next < 2 ^ 56) × IsYoung seat.old.local }
     requires low { (message.now.stamp.clock < 2 ^ 56) × IsLow message.now.kind }
-    requires room { vec_len messages.old < vec_capacity messages.old }
-    ensures { Moves message.now.to (Some message.now) (take_of (setup_of image.now layout.now frames) message.now.to seat.old.local message.now) seat.old seat.new messages.old.items messages.new.items result }
+    requires room { length flight.old.messages < flight.old.room }
+    requires new { (k : ℕ) → seat.old.next ≤ k → find (record { sender = message.now.to; seq = k }) flight.old.messages ≡ None }
+    ensures moves { Moves message.now.to (Some message.now) (take_of (setup_of image.now layout.now (settings_seen settings.now)) message.now.to seat.old.local message.now) seat.old seat.new flight.old.messages flight.new.messages result }
+    ensures room { flight.new.room ≡ flight.old.room }
 {
-    let _taken = pull(messages, message.id);
     let stamp = take_stamp(seat.clock, message.stamp, message.to);
-    let done = seat.local.take(image, layout, frames, message.to, message);
-    settle(seat, messages, stamp, &done);
+    let done = seat.local.take(image, layout, settings, message.to, message);
+    settle(seat, flight, stamp, &done);
     Event {
         choice: Choice::Take(message.to, message.id),
         stamp,
@@ -122,7 +129,7 @@ impl Machine {
         ensures made { IfOk result (λ event. world_step (rules (setup_in image.now self.old)) self.old.world (Act actor) ≡ Some (self.new.world, event)) }
         ensures kept { OnOk result (self.new ≡ record self.old { world = self.new.world }) }
         ensures enabled { OnOk result (refusal_of self.old.world (Act actor) ≡ None) }
-        ensures refused { IfErr result (λ why. (why ≡ NotEnabled.Memory) ⊎ (refusal_of self.old.world (Act actor) ≡ Some why)) }
+        ensures refused { IfErr result (λ why. refusal_of self.old.world (Act actor) ≡ Some why) }
         ensures unchanged { OnErr result (self.new ≡ self.old) }
     {
         let at = usize::from(actor);
@@ -130,15 +137,12 @@ impl Machine {
             return Err(NotEnabled::NoActor);
         }
         self.seats[at].local.can_act()?;
-        if self.messages.try_reserve(1).is_err() {
-            return Err(NotEnabled::Memory);
-        }
         Ok(act_at(
             &mut self.seats[at],
-            &mut self.messages,
+            &mut self.flight,
             image,
             &self.layout,
-            self.frames,
+            &self.settings,
             actor,
         ))
     }
@@ -149,41 +153,35 @@ impl Machine {
         ensures made { IfOk result (λ event. world_step (rules (setup_in image.now self.old)) self.old.world (Take actor id) ≡ Some (self.new.world, event)) }
         ensures kept { OnOk result (self.new ≡ record self.old { world = self.new.world }) }
         ensures enabled { OnOk result (refusal_of self.old.world (Take actor id) ≡ None) }
-        ensures refused { IfErr result (λ why. (why ≡ NotEnabled.Memory) ⊎ (refusal_of self.old.world (Take actor id) ≡ Some why)) }
+        ensures refused { IfErr result (λ why. refusal_of self.old.world (Take actor id) ≡ Some why) }
         ensures unchanged { OnErr result (self.new ≡ self.old) }
     {
         let at = usize::from(actor);
         if at >= self.seats.len() {
             return Err(NotEnabled::NoActor);
         }
-        let message = match look(&self.messages, id) {
+        let message = match self.flight.take(actor, id) {
             Some(message) => message,
             None => return Err(NotEnabled::NoMessage),
         };
-        if message.to != actor {
-            return Err(NotEnabled::NoMessage);
-        }
-        if self.messages.try_reserve(1).is_err() {
-            return Err(NotEnabled::Memory);
-        }
         Ok(take_at(
             &mut self.seats[at],
-            &mut self.messages,
+            &mut self.flight,
             image,
             &self.layout,
-            self.frames,
+            &self.settings,
             &message,
         ))
     }
 
-    /// Makes one event. After a refusal nothing has changed; want of memory is the one refusal of a choice that is enabled.
+    /// Makes one event. It takes no memory; after a refusal nothing has changed.
     pub fn step(&mut self, image: &Image, choice: Choice) -> Result<Event, NotEnabled>
         requires made { IsMade image.now self.old }
         requires young { IsYoungWorld self.old.world }
         ensures made { IfOk result (λ event. world_step (rules (setup_in image.now self.old)) self.old.world choice ≡ Some (self.new.world, event)) }
         ensures kept { OnOk result (self.new ≡ record self.old { world = self.new.world }) }
         ensures enabled { OnOk result (refusal_of self.old.world choice ≡ None) }
-        ensures refused { IfErr result (λ why. (why ≡ NotEnabled.Memory) ⊎ (refusal_of self.old.world choice ≡ Some why)) }
+        ensures refused { IfErr result (λ why. refusal_of self.old.world choice ≡ Some why) }
         ensures unchanged { OnErr result (self.new ≡ self.old) }
     {
         match choice {
@@ -194,26 +192,28 @@ impl Machine {
 }
 
 impl Machine {
-    /// The machine of a program at its start, for one node: `NoFrames` where its data and stack pages
-    /// are more than the frames.
+    /// The machine of a program at its start, for one node. It takes all memory that the machine will
+    /// ever need. `NoFrames` where the program's data and stack pages are more than the frames.
     pub fn start(alloc: Global, image: &Image, settings: &Settings) -> Result<Machine, LayoutFault>
         requires nodes { settings.now.nodes ≡ image.now.nodes }
-        ensures made { IfOk result (λ machine. machine ≡ start_of image.now settings.now.frames settings.now.instructions) }
+        ensures made { IfOk result (λ machine. machine ≡ start_of image.now (settings_seen settings.now)) }
         ensures room { OnOk result (length (pages_of image.now) ≤ settings.now.nodes * settings.now.frames) }
         ensures no_frames { (need have : ℕ) → result ≡ Err (LayoutFault.NoFrames need have) →
             (need ≡ length (pages_of image.now)) × (have ≡ settings.now.nodes * settings.now.frames) × (have < need) }
     {
         let layout = Layout::make(alloc, image, settings)?;
-        match start_seats(alloc, image, &layout, settings) {
-            Ok(seats) => Ok(Machine {
-                layout,
-                frames: settings.frames,
-                instructions: settings.instructions,
-                seats,
-                messages: Vec::new(alloc),
-            }),
-            Err(_) => Err(LayoutFault::Memory),
-        }
+        let Ok(seats) = start_seats(alloc, image, &layout, settings) else {
+            return Err(LayoutFault::Memory);
+        };
+        let Ok(flight) = Flight::make(alloc, room(settings) as usize) else {
+            return Err(LayoutFault::Memory);
+        };
+        Ok(Machine {
+            layout,
+            settings: *settings,
+            seats,
+            flight,
+        })
     }
 
     /// Whether each hart has stopped.
@@ -227,15 +227,14 @@ impl Machine {
     pub fn quiet(&self) -> bool
         ensures { result ≡ is_quiet self.now.world }
     {
-        self.stopped() && self.messages.is_empty()
+        self.stopped() && self.flight.len() == 0
     }
 
     /// How many messages are in flight.
     pub fn in_flight(&self) -> u32
-        requires { length self.now.world.flight < 2 ^ 31 }
         ensures { result ≡ length self.now.world.flight }
     {
-        self.messages.len() as u32
+        self.flight.len() as u32
     }
 }
 
@@ -256,7 +255,7 @@ impl Machine {
         ensures count { result ≡ length (enabled_of self.now.world) }
         ensures few { result ≤ 1 }
     {
-        self.acts() + self.messages.len() as u32
+        self.acts() + self.flight.len() as u32
     }
 
     /// The enabled choice with this number in their order: for each actor its act, then its takes.
@@ -269,19 +268,18 @@ impl Machine {
         if at < acts {
             Choice::Act(0)
         } else {
-            Choice::Take(0, self.messages[(at - acts) as usize].id)
+            Choice::Take(0, self.flight.select((at - acts) as usize).id)
         }
     }
 
     /// When all harts have stopped: the take of the message that was sent first. None where the
     /// machine is quiet.
-    pub fn drain_next(&self, image: &Image) -> Option<Choice>
-        requires made { IsMade image.now self.now }
-        requires stopped { is_stopped self.now.world ≡ true }
+    pub fn drain_next(&self) -> Option<Choice>
+        requires { is_stopped self.now.world ≡ true }
         ensures next { result ≡ drain_of self.now.world }
         ensures none { result ≡ None ↔ (is_quiet self.now.world ≡ true) }
     {
-        let message = self.messages.first()?;
+        let message = self.flight.least()?;
         Some(Choice::Take(message.to, message.id))
     }
 
@@ -289,10 +287,11 @@ impl Machine {
     /// at most one; afterwards the drain's.
     pub fn next_choice(&self, image: &Image) -> Option<Choice>
         requires { IsMade image.now self.now }
-        ensures { result ≡ next_choice self.now.world }
+        ensures next { result ≡ next_choice self.now.world }
+        ensures enabled { IfSome result (λ choice. refusal_of self.now.world choice ≡ None) }
     {
         if self.stopped() {
-            return self.drain_next(image);
+            return self.drain_next();
         }
         if self.enabled_count(image) == 0 {
             return None;
@@ -309,7 +308,7 @@ fn start_seats(
     settings: &Settings,
 ) -> Result<Vec<Seat<Node>>, NoMemory>
     requires { layout.now.nodes ≡ settings.now.nodes }
-    ensures { IfOk result (λ seats. seats.items ≡ map (new_seat (setup_of image.now layout.now settings.now.frames) settings.now.instructions) (below layout.now.nodes)) }
+    ensures { IfOk result (λ seats. seats.items ≡ map (new_seat (setup_of image.now layout.now (settings_seen settings.now))) (below layout.now.nodes)) }
 {
     let mut seats = Vec::new(alloc);
     for node in 0..settings.nodes {

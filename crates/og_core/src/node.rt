@@ -4,7 +4,8 @@ ghost use Rattle.std.specs.Prelude.{◌≡◌, ◌≢◌, ℕ, ◌+◌, ◌*◌,
 ghost use Rattle.og_runs.specs.Runs.{Outcome};
 ghost use Rattle.rv_hart.specs.Hart.{need_of};
 ghost use Rattle.og_line.specs.Access.{IsAligned, addr_of};
-ghost use Rattle.og_core.specs.Node.{NodeState, setup_of, act_of, take_of, outcome_of, IsYoung, can_act_of, block_at, block_number, home_number, stop_note, completed, access_note, by_block, by_copy, by_entry, by_fill, IsLow};
+ghost use Rattle.og_core.specs.Node.{NodeState, setup_of, act_of, take_of, outcome_of, IsYoung, can_act_of, block_at, block_number, home_number, stop_note, completed, access_note, by_block, by_copy, by_entry, by_fill, IsLow, RunsWhereFilled};
+ghost use Rattle.og_base.specs.Settings.{settings_seen};
 ghost use Rattle.og_core.specs.Start.{start_node, home_lines, home_line_of};
 ghost use Rattle.std.specs.Prelude.{IfOk};
 
@@ -61,10 +62,10 @@ fn block_of(layout: &Layout, addr: u64) -> Option<Block>
 }
 
 /// The number of a block among all blocks of the machine.
-fn number_of(frames: u16, block: Block) -> usize
-    ensures { result ≡ block_number frames block }
+fn number_of(settings: &Settings, block: Block) -> usize
+    ensures { result ≡ block_number settings.now.frames block }
 {
-    (usize::from(block.frame.home) * usize::from(frames) + usize::from(block.frame.index)) * BLOCKS
+    (usize::from(block.frame.home) * usize::from(settings.frames) + usize::from(block.frame.index)) * BLOCKS
         + usize::from(block.number)
 }
 
@@ -108,10 +109,10 @@ impl Node {
     }
 
     /// The node's own next event.
-    pub fn act(&mut self, image: &Image, layout: &Layout, frames: u16) -> Done
-        requires enabled { act_of (setup_of image.now layout.now frames) self.old ≢ None }
+    pub fn act(&mut self, image: &Image, layout: &Layout, settings: &Settings) -> Done
+        requires enabled { act_of (setup_of image.now layout.now (settings_seen settings.now)) self.old ≢ None }
         requires young { IsYoung self.old }
-        ensures { act_of (setup_of image.now layout.now frames) self.old ≡ Some (outcome_of self.new result) }
+        ensures { act_of (setup_of image.now layout.now (settings_seen settings.now)) self.old ≡ Some (outcome_of self.new result) }
     {
         match self.hart.next(image) {
             Need::Plain => {
@@ -136,23 +137,23 @@ impl Node {
                     note: Some(note),
                 }
             }
-            Need::Access(access) => self.reach(image, layout, frames, access),
+            Need::Access(access) => self.reach(image, layout, settings, access),
         }
     }
 
     /// Makes an access: on the node's copy of the block, or asks the block's home for it.
-    fn reach(&mut self, image: &Image, layout: &Layout, frames: u16, access: Access) -> Done
+    fn reach(&mut self, image: &Image, layout: &Layout, settings: &Settings, access: Access) -> Done
         requires need { need_of image.now self.old.hart ≡ Need.Access access }
         requires aligned { IsAligned access }
-        requires enabled { by_block (setup_of image.now layout.now frames) self.old access (block_at layout.now (addr_of access)) ≢ None }
+        requires enabled { by_block (setup_of image.now layout.now (settings_seen settings.now)) self.old access (block_at layout.now (addr_of access)) ≢ None }
         requires young { IsYoung self.old }
-        ensures { by_block (setup_of image.now layout.now frames) self.old access (block_at layout.now (addr_of access)) ≡ Some (outcome_of self.new result) }
+        ensures { by_block (setup_of image.now layout.now (settings_seen settings.now)) self.old access (block_at layout.now (addr_of access)) ≡ Some (outcome_of self.new result) }
     {
         let block = match block_of(layout, access.addr()) {
             Some(block) => block,
             None => unreachable!(),
         };
-        self.touch(image, number_of(frames, block), block, access)
+        self.touch(image, number_of(settings, block), block, access)
     }
 
     /// Makes an access to the block with this number: on the node's copy, or asks the home for it.
@@ -201,20 +202,20 @@ impl Node {
         &mut self,
         image: &Image,
         layout: &Layout,
-        frames: u16,
+        settings: &Settings,
         node: NodeId,
         message: &Msg,
     ) -> Done
-        requires row { take_of (setup_of image.now layout.now frames) node self.old message.now ≢ None }
-        requires running { self.old.hart.cause ≡ None }
+        requires row { take_of (setup_of image.now layout.now (settings_seen settings.now)) node self.old message.now ≢ None }
+        requires running { RunsWhereFilled self.old message.now.kind }
         requires young { IsYoung self.old }
         requires low { IsLow message.now.kind }
-        ensures { take_of (setup_of image.now layout.now frames) node self.old message.now ≡ Some (outcome_of self.new result) }
+        ensures { take_of (setup_of image.now layout.now (settings_seen settings.now)) node self.old message.now ≡ Some (outcome_of self.new result) }
     {
         match message.kind {
             Kind::ReadEx { block } => self.serve(home_number(block), block, message.id.sender),
             Kind::ExclusiveReply { block, line, .. } => {
-                self.fill(image, number_of(frames, block), line)
+                self.fill(image, number_of(settings, block), line)
             }
         }
     }
@@ -264,7 +265,7 @@ impl Node {
     ) -> Result<Node, NoMemory>
         requires nodes { layout.now.nodes ≡ settings.now.nodes }
         requires inside { node < settings.now.nodes }
-        ensures { IfOk result (λ made. made ≡ start_node (setup_of image.now layout.now settings.now.frames) node settings.now.instructions) }
+        ensures { IfOk result (λ made. made ≡ start_node (setup_of image.now layout.now (settings_seen settings.now)) node) }
     {
         let blocks = usize::from(settings.frames) * BLOCKS;
         let stack = (FIRST_STACK_PAGE + 2 * u64::from(node) + 1) * 4096;
@@ -280,7 +281,7 @@ impl Node {
             copies: vec![in alloc; None; usize::from(settings.nodes) * blocks]?,
             request: None,
             entries: vec![in alloc; Entry::Unowned; blocks]?,
-            lines: home_lines(alloc, node, image, layout, settings.frames)?,
+            lines: home_lines(alloc, node, image, layout, settings)?,
         })
     }
 }
@@ -293,12 +294,12 @@ fn home_lines(
     node: NodeId,
     image: &Image,
     layout: &Layout,
-    frames: u16,
+    settings: &Settings,
 ) -> Result<Vec<Line>, NoMemory>
-    ensures { IfOk result (λ lines. lines.items ≡ home_lines (setup_of image.now layout.now frames) node) }
+    ensures { IfOk result (λ lines. lines.items ≡ home_lines (setup_of image.now layout.now (settings_seen settings.now)) node) }
 {
     let mut lines = Vec::new(alloc);
-    for j in 0..usize::from(frames) * BLOCKS {
+    for j in 0..usize::from(settings.frames) * BLOCKS {
         lines.push(home_line(node, image, layout, j))?;
     }
     Ok(lines)

@@ -46,7 +46,7 @@ distinct_without {K} i (m ∷ ms) h = at (same_id i m.id) (distinct_without i ms
 
 -- ------------------------------------------------------------------------------ insertion
 
-find_insert : {K : Type 0} → (j : MsgId) (m : Msg K) (xs : List (Msg K)) → find m.id xs ≡ None → find j (placed m xs) ≡ cond (same_id j m.id) (Some m) (find j xs)
+pub find_insert : {K : Type 0} → (j : MsgId) (m : Msg K) (xs : List (Msg K)) → find m.id xs ≡ None → find j (placed m xs) ≡ cond (same_id j m.id) (Some m) (find j xs)
 find_insert j m [] none = refl
 find_insert {K} j m (x ∷ xs) none = at (precedes x m) (same_id m.id x.id) refl none (λ e. find_insert j m xs e)
   where

@@ -2,7 +2,7 @@
 
 ghost use Rattle.std.specs.Prelude.{◌≡◌, ◌≢◌, ℕ, ◌+◌, ◌-◌, ◌^◌, ◌<◌, ◌≤◌, ◌⊎◌, min, List, [], ◌∷◌, ◌++◌, length, take, map, Option, None, Some, Ok, Err, OnOk, OnErr, IfOk, MatchOption, vec_len, string_bytes, Contains};
 ghost use Rattle.og_cli.specs.Memory.{entries, one_more};
-ghost use Rattle.og_cli.specs.Outside.{ShelfState, SinkState, file_of, HasFile, HasLongFile, AddsName, AddsAtMost, appended, Rises, texts};
+ghost use Rattle.og_cli.specs.Outside.{ShelfState, SinkState, file_of, HasFile, HasLongFile, TellsLongFile, AddsName, AddsAtMost, appended, Rises, texts};
 
 use super::{Shelf, ShelfFault, Sink, SinkFault, name_fault};
 use og_base::NoMemory;
@@ -82,6 +82,18 @@ fn copy_of(alloc: Global, bytes: &[u8], limit: u64) -> Result<Vec<u8>, ShelfFaul
     Ok(bytes.to_vec(alloc)?)
 }
 
+// The fault of a file that is too long in a call that is told to fail.
+fn long_fault(names: &mut Vec<String>, alloc: Global, name: &str) -> ShelfFault
+    ensures kept { result ≡ ShelfFault.Failed → AddsName name.now (texts names.old.items) (texts names.new.items) }
+    ensures unchanged { result ≢ ShelfFault.Failed → texts names.new.items ≡ texts names.old.items }
+    ensures long { result ≢ ShelfFault.Memory }
+{
+    match name_fault(names, alloc, name) {
+        ShelfFault::Failed => ShelfFault::Failed,
+        _ => ShelfFault::TooLong,
+    }
+}
+
 impl Shelf for MemoryShelf {
     ghost seen = { λ s. record { files = Some s.files; failed = s.failed } };
 
@@ -92,21 +104,22 @@ impl Shelf for MemoryShelf {
         ensures within { IfOk result (λ bytes. vec_len bytes ≤ limit) }
         ensures added { result ≡ Err ShelfFault.Failed → AddsName name.now self.old.failed self.new.failed }
         ensures too_long { result ≡ Err ShelfFault.TooLong → HasLongFile (Some self.old.files) name.now limit }
+        ensures long { TellsLongFile (Some self.old.files) name.now limit → result ≢ Err ShelfFault.Failed → result ≡ Err ShelfFault.TooLong }
 
-        // It fails at the calls that it was told, and where there is no such file.
-        ensures told { Contains self.old.fails (one_more self.old.calls) → (result ≡ Err ShelfFault.Failed) ⊎ (result ≡ Err ShelfFault.Memory) }
+        // It fails at the calls that it was told, and where there is no such file. Without memory to keep
+        // the name it answers that the file is too long, where it is, and else that it wants memory.
+        ensures told { Contains self.old.fails (one_more self.old.calls) → (result ≡ Err ShelfFault.Failed) ⊎ (result ≡ Err ShelfFault.TooLong) ⊎ (result ≡ Err ShelfFault.Memory) }
         ensures missing { file_of self.old.files name.now ≡ None → (result ≡ Err ShelfFault.Failed) ⊎ (result ≡ Err ShelfFault.Memory) }
         ensures cause { result ≡ Err ShelfFault.Failed → Contains self.old.fails (one_more self.old.calls) ⊎ (file_of self.old.files name.now ≡ None) }
         ensures kept { result ≢ Err ShelfFault.Failed → self.new.failed ≡ self.old.failed }
         ensures counted { (self.new.calls ≡ one_more self.old.calls) × (self.new.fails ≡ self.old.fails) }
     {
         self.calls = self.calls.saturating_add(1);
-        if self.fails.contains(&self.calls) {
-            return Err(name_fault(&mut self.failed, alloc, name));
-        }
+        let fails = self.fails.contains(&self.calls);
         match find(&self.files, name) {
-            Some(bytes) => copy_of(alloc, bytes, limit),
-            None => Err(name_fault(&mut self.failed, alloc, name)),
+            Some(bytes) if !fails => copy_of(alloc, bytes, limit),
+            Some(bytes) if bytes.len() as u64 > limit => Err(long_fault(&mut self.failed, alloc, name)),
+            _ => Err(name_fault(&mut self.failed, alloc, name)),
         }
     }
 }
@@ -184,8 +197,6 @@ impl Sink for MemorySink {
         ensures no_fault { result ≢ Err SinkFault.Failed → self.new.faults ≡ self.old.faults }
         ensures want { result ≡ Err SinkFault.Memory → self.new.wants ≡ one_more self.old.wants }
         ensures no_want { result ≢ Err SinkFault.Memory → self.new.wants ≡ self.old.wants }
-        ensures faults_stay { self.old.faults ≤ self.new.faults }
-        ensures wants_stay { self.old.wants ≤ self.new.wants }
         ensures counted { piece.now ≢ [] → self.new.calls ≡ one_more self.old.calls }
         ensures same { (self.new.fails ≡ self.old.fails) × (self.new.most ≡ self.old.most) }
     {

@@ -94,6 +94,15 @@ fn read_file<R: Files>(
     read_within(&mut file, &mut buffer, alloc, limit)
 }
 
+impl<R: Files> FileShelf<'_, R> {
+    /// The names whose fetch failed, in their order.
+    pub fn failed(&self) -> &[String]
+        ensures { result.now ≡ self.now.failed.items }
+    {
+        &self.failed
+    }
+}
+
 impl<R: Files> Shelf for FileShelf<'_, R> {
     ghost seen = { λ s. record { files = None; failed = texts s.failed.items } };
 
@@ -143,8 +152,8 @@ impl<W: Write + Drop> Sink for StreamSink<W> {
         ensures taken { IfOk result (λ n. n ≤ length piece.now) }
         ensures some { piece.now ≢ [] → IfOk result (λ n. 1 ≤ n) }
         ensures fault { result ≡ Err SinkFault.Failed → Rises self.old.faults self.new.faults }
-        ensures no_want { result ≢ Err SinkFault.Memory }
-        ensures faults_stay { self.old.faults ≤ self.new.faults }
+        ensures no_fault { result ≢ Err SinkFault.Failed → self.new.faults ≡ self.old.faults }
+        ensures no_memory { result ≢ Err SinkFault.Memory }
         ensures shown { WriteAppends (W.contents self.old.writer) (W.contents self.new.writer) result piece.now }
     {
         if piece.is_empty() {

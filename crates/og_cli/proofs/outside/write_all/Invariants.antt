@@ -1,13 +1,13 @@
 -- What was written and what is left make up the text.
-use Rattle.std.proofs.Common.{◌≡◌, ℕ, ◌≤◌, List, ◌++◌, length}
+use Rattle.std.proofs.Common.{◌≡◌, ℕ, List, ◌++◌, length}
 use Rattle.og_cli.specs.Outside.{appended}
 use Rattle.og_cli.proofs.outside.write_all.Given as goal
 
 abbrev pub invariant-loop-rest : goal.invariant-loop-rest
 invariant-loop-rest g l = record {
   split : (written : List ℕ) × (l.text ≡ written ++ l.rest) × ((g.K.Sink.seen l.sink).held ≡ appended (g.K.Sink.seen l.initial.sink).held written);
-  faults_stay : (g.K.Sink.seen l.initial.sink).faults ≤ (g.K.Sink.seen l.sink).faults;
-  wants_stay : (g.K.Sink.seen l.initial.sink).wants ≤ (g.K.Sink.seen l.sink).wants;
+  faults_stay : (g.K.Sink.seen l.sink).faults ≡ (g.K.Sink.seen l.initial.sink).faults;
+  wants_stay : (g.K.Sink.seen l.sink).wants ≡ (g.K.Sink.seen l.initial.sink).wants;
 }
 
 abbrev pub decreases-loop-rest : goal.decreases-loop-rest

@@ -2,6 +2,7 @@ use Rattle.std.proofs.Common.{arith}
 use Rattle.std.proofs.lemmas.Grind.{common_steps}
 use Rattle.rv_hart.specs.Layout.{below}
 use Rattle.rv_hart.proofs.Pages.{map_below_more}
+use Rattle.og_base.specs.Settings.{settings_seen}
 use Rattle.og_core.specs.Node.{setup_of}
 use Rattle.og_core.specs.Machine.{new_seat}
 use Rattle.og_core.proofs.machine.start_seats.Goals as goal
@@ -11,4 +12,4 @@ unfolding below
 loop-node-init c = c.new-seats.ensures.items
 
 pub loop-node-preserved : goal.loop-node-preserved
-loop-node-preserved c = rw (map_below_more (new_seat (setup_of c.args.image.now c.args.layout.now c.args.settings.now.frames) c.args.settings.now.instructions) c.loop-node.node) (grind (arith, common_steps))
+loop-node-preserved c = rw (map_below_more (new_seat (setup_of c.args.image.now c.args.layout.now (settings_seen c.args.settings.now))) c.loop-node.node) (grind (arith, common_steps))

@@ -15,5 +15,5 @@ loop-j-preserved c = rw (map_below_more (home_line_of c.args.image.now c.args.la
 pub returns : goal.returns
 unfolding home_lines
 returns c =
-    let last : c.loop-j.j ≡ c.args.frames * 32 = omega arith in
+    let last : c.loop-j.j ≡ c.args.settings.now.frames * 32 = omega arith in
     subst (λ (n : ℕ). c.loop-j.lines.items ≡ map (home_line_of c.args.image.now c.args.layout.now c.args.node) (below n)) last c.loop-j.invariant

@@ -1,4 +1,4 @@
-use Rattle.std.proofs.Common.{◌≡◌, ◌+◌, ◌≤◌, List, length, arith, ap}
+use Rattle.std.proofs.Common.{◌≡◌, ◌+◌, ◌≤◌, List, length, arith, ap, ◌∙◌}
 use Rattle.og_runs.specs.declared.Msg.{Msg}
 use Rattle.og_core.specs.declared.msg.Kind.{Kind}
 use Rattle.og_core.specs.Machine.{MachineState}
@@ -8,16 +8,14 @@ use Rattle.og_core.proofs.machine.Machine.enabled_count.Goals as goal
 
 pub overflow_cast-result : goal.overflow_cast-result
 overflow_cast-result c =
-    let flight : c.self.inside.messages.items ≡ c.args.self.now.world.flight = ap (λ (m : MachineState). m.world.flight) c.self.view_is in
     let few : length c.args.self.now.world.flight ≤ 1 = few_flight c.args.self.now.world (shape_of c.args.image.now c.args.self.now c.requires.made) in
-    let size : length c.self.inside.messages.items ≡ length c.args.self.now.world.flight = ap (λ (ms : List (Msg Kind)). length ms) flight in
+    let size : c.len.result ≡ length c.args.self.now.world.flight = c.len.ensures.value ∙ ap (λ (m : MachineState). length m.world.flight) c.self.view_is in
     omega arith
 
 pub overflow_add-result : goal.overflow_add-result
 overflow_add-result c =
     let shape : Shape c.args.self.now.world = shape_of c.args.image.now c.args.self.now c.requires.made in
-    let flight : c.self.inside.messages.items ≡ c.args.self.now.world.flight = ap (λ (m : MachineState). m.world.flight) c.self.view_is in
-    let size : length c.self.inside.messages.items ≡ length c.args.self.now.world.flight = ap (λ (ms : List (Msg Kind)). length ms) flight in
+    let size : c.len.result ≡ length c.args.self.now.world.flight = c.len.ensures.value ∙ ap (λ (m : MachineState). length m.world.flight) c.self.view_is in
     let count : acts_in c.args.self.now.world.seats + length c.args.self.now.world.flight ≡ length (enabled_of c.args.self.now.world) = count_is c.args.self.now.world shape in
     let one : length (enabled_of c.args.self.now.world) ≤ 1 = one_enabled c.args.self.now.world shape in
     let acts : c.acts.result ≡ acts_in c.args.self.now.world.seats = c.acts.ensures in
@@ -25,8 +23,7 @@ overflow_add-result c =
 
 pub returns-clause-count : goal.returns-clause-count
 returns-clause-count c =
-    let flight : c.self.inside.messages.items ≡ c.args.self.now.world.flight = ap (λ (m : MachineState). m.world.flight) c.self.view_is in
-    let size : length c.self.inside.messages.items ≡ length c.args.self.now.world.flight = ap (λ (ms : List (Msg Kind)). length ms) flight in
+    let size : c.len.result ≡ length c.args.self.now.world.flight = c.len.ensures.value ∙ ap (λ (m : MachineState). length m.world.flight) c.self.view_is in
     let count : acts_in c.args.self.now.world.seats + length c.args.self.now.world.flight ≡ length (enabled_of c.args.self.now.world) = count_is c.args.self.now.world (shape_of c.args.image.now c.args.self.now c.requires.made) in
     let acts : c.acts.result ≡ acts_in c.args.self.now.world.seats = c.acts.ensures in
     omega arith
@@ -34,8 +31,7 @@ returns-clause-count c =
 pub returns-clause-few : goal.returns-clause-few
 returns-clause-few c =
     let shape : Shape c.args.self.now.world = shape_of c.args.image.now c.args.self.now c.requires.made in
-    let flight : c.self.inside.messages.items ≡ c.args.self.now.world.flight = ap (λ (m : MachineState). m.world.flight) c.self.view_is in
-    let size : length c.self.inside.messages.items ≡ length c.args.self.now.world.flight = ap (λ (ms : List (Msg Kind)). length ms) flight in
+    let size : c.len.result ≡ length c.args.self.now.world.flight = c.len.ensures.value ∙ ap (λ (m : MachineState). length m.world.flight) c.self.view_is in
     let count : acts_in c.args.self.now.world.seats + length c.args.self.now.world.flight ≡ length (enabled_of c.args.self.now.world) = count_is c.args.self.now.world shape in
     let one : length (enabled_of c.args.self.now.world) ≤ 1 = one_enabled c.args.self.now.world shape in
     let acts : c.acts.result ≡ acts_in c.args.self.now.world.seats = c.acts.ensures in
