@@ -179,7 +179,7 @@ simulated image m n most es fs start a same sort =
     let f : ℕ → NodeState = λ k. start_node setup k in
     let is : IsStart f m.world = subst (λ (x : World NodeState Kind). IsStart f x) start.run.0 (start_is setup) in
     let r : (v : World NodeState Kind) × WorldRun (rules setup) m.world (choices fs) v fs × (v.seats ≡ n.world.seats) × (v.flight ≡ n.world.flight) = sorted_run (rules setup) (choices es) m.world n.world (start_of_histories f) es fs (start_shows f m.world is) (start_sound f) a.run sort in
-    let count : length fs ≡ length es = sym (length_permutation fs es same) in
+    let count : length fs ≡ length es = length_permutation es fs same in
     let from : WorldRun (rules setup) (start_world setup) (choices fs) r.0 fs = subst (λ (w : World NodeState Kind). WorldRun (rules setup) w (choices fs) r.0 fs) (sym start.run.0) r.1 in
     let made : MadeBy image (record m { world = r.0 }) (choices fs) fs = record { fits = record { loads = start.fits.loads; one_node = start.fits.one_node; placed = start.fits.placed; room = start.fits.room }; run = from } in
     let quiet : is_quiet n.world ≡ is_quiet r.0 = ap (λ (w : World NodeState Kind). is_quiet w) (sym (one_world r.0 n.world r.2 r.3)) in

@@ -188,3 +188,9 @@ IsTold text old new = (new ≡ with_appended old text) ⊎ CutByFault text old n
 abbrev pub refused_of : WordsFault → Exit
 refused_of words.Words = exit.Words
 refused_of words.Memory = exit.Memory
+
+-- the status is that of an answer with which the command ends, and of which the standard error tells
+abbrev pub EndsWithStatus : Option JobState → ShelfState → ShelfState → SinkState → SinkState → SinkState → SinkState → ℕ → Type 0
+EndsWithStatus asked shelf after old new told_before told_after status =
+    (answer : Exit) × (status ≡ status_of answer) × CommandEnds asked shelf after old new answer × EndsUnhindered asked shelf after old new answer
+    × IsTold (told_of (name_of asked) answer) told_before told_after

@@ -1,12 +1,17 @@
 //! The command: what it reads and writes, and what it prints.
 //!
-//! Below stand the names that all crates share and the laws of runs. Above stands the thin program
-//! that hands in the real files and streams. `outside` has the files and sinks, real and in memory;
-//! `text` has the text of a run.
+//! Below stand the machine and all that it stands on. Above stand programs of one line, and the
+//! comparison of the examples. `outside` has the files and sinks, real and in memory; `words` what the
+//! words of the command line ask for; `simulate` a run from a machine's start; `text` the text of a run;
+//! `exit` how the command ends; `top` the command from its words to its answer; `program` the whole
+//! program over the system's files and streams.
+//!
+//! An event takes no memory but its place in the list of events; the text is made once, at the end.
 #![tactic(auto)]
 
 pub mod exit;
 pub mod outside;
+pub mod program;
 pub mod simulate;
 pub mod text;
 pub mod top;

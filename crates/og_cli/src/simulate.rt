@@ -57,10 +57,11 @@ fn advance(
             Some(choice) => choice,
             None => return Ok(()),
         };
-        match machine.step(image, choice) {
-            Ok(event) => events.push(event)?,
+        let event = match machine.step(image, choice) {
+            Ok(event) => event,
             Err(_) => unreachable!(),
-        }
+        };
+        events.push(event)?;
     }
     Ok(())
 }

@@ -1,109 +1,12 @@
-//! The examples: each is run through the command, and what it prints compared with its stored text.
-//!
-//! Below stands the command, and nothing stands above. The program is given the names of examples and
-//! runs in the folder with their files: `NAME.hex`, the source with comments; `NAME.raw`, the image;
-//! `NAME.out`, the text. It writes a line for each, and ends with status 1 unless all are as stored.
+//! The examples of this project, in the folder `data`: each has to be as stored.
 #![tactic(auto)]
 
-ghost use Rattle.std.specs.Prelude.{◌≡◌, ◌≢◌, ◌↔◌};
-
-use og_cli::exit::Exit;
-use og_cli::outside::memory::MemorySink;
-use og_cli::outside::real::FileShelf;
-use og_cli::top::origin_alone;
-use std::alloc::Global;
+use og_compare::check_arguments;
 use std::process::ExitCode;
-use std::{env, fmt, fs, io};
-
-/// How an example compares with its files.
-#[derive(Drop)]
-enum Finding {
-    AsStored,
-    OtherBytes,
-    OtherEnd,
-    OtherText,
-    Unread(io::Error),
-}
-
-impl fmt::Display for Finding {
-    fn fmt<W: fmt::Write>(&self, f: &mut fmt::Formatter<W>) -> fmt::Result {
-        match self {
-            Finding::AsStored => f.write_str("as stored"),
-            Finding::OtherBytes => f.write_str("its image isn't that of its source"),
-            Finding::OtherEnd => f.write_str("it doesn't end quiet"),
-            Finding::OtherText => f.write_str("it prints another text"),
-            Finding::Unread(error) => write!(f, "{error}"),
-        }
-    }
-}
 
 fn main(rt: HostRuntime) -> ExitCode {
-    match check_all(&rt) {
+    match check_arguments(&rt) {
         Ok(true) => ExitCode::SUCCESS,
         _ => ExitCode::FAILURE,
     }
-}
-
-/// Writes a line for each example, and says whether all are as stored.
-fn check_all(rt: &HostRuntime) -> io::Result<bool> {
-    let mut all = true;
-    for name in env::args(rt)?.skip(1) {
-        let finding = check(rt, name.as_str()).unwrap_or_else(|error| Finding::Unread(error));
-        println!(rt; "{name}: {finding}")?;
-        all = all && matches!(&finding, Finding::AsStored);
-    }
-    Ok(all)
-}
-
-/// Reads an example's files, runs its image, and compares.
-fn check(rt: &HostRuntime, name: &str) -> io::Result<Finding> {
-    let alloc = rt.alloc();
-    let file = format!(in alloc; "{name}.raw")?;
-    let source = fs::read_to_string(rt, format!(in alloc; "{name}.hex")?.as_str())?;
-    let image = fs::read(rt, file.as_str())?;
-    let text = fs::read(rt, format!(in alloc; "{name}.out")?.as_str())?;
-    let bytes = bytes_of(alloc, source.as_str())?;
-    let mut out = MemorySink::make(alloc, 65_536, Vec::new(alloc));
-    let exit = run(rt, file, &mut out)?;
-    Ok(compare(&bytes, &image, exit, out.held(), &text))
-}
-
-/// An example is as stored exactly where its image is that of its source, its run ends quiet, and what
-/// is printed is the stored text; else it is told which of these fails, the first in this order.
-fn compare(bytes: &[u8], image: &[u8], exit: Exit, printed: &[u8], text: &[u8]) -> Finding
-    ensures as_stored { result ≡ Finding.AsStored ↔ ((bytes.now ≡ image.now) × (exit ≡ Exit.Quiet) × (printed.now ≡ text.now)) }
-    ensures other_bytes { result ≡ Finding.OtherBytes ↔ (bytes.now ≢ image.now) }
-    ensures other_end { result ≡ Finding.OtherEnd ↔ ((bytes.now ≡ image.now) × (exit ≢ Exit.Quiet)) }
-    ensures other_text { result ≡ Finding.OtherText ↔ ((bytes.now ≡ image.now) × (exit ≡ Exit.Quiet) × (printed.now ≢ text.now)) }
-{
-    if bytes != image {
-        Finding::OtherBytes
-    } else if exit != Exit::Quiet {
-        Finding::OtherEnd
-    } else if printed != text {
-        Finding::OtherText
-    } else {
-        Finding::AsStored
-    }
-}
-
-/// Runs an image.
-fn run(rt: &HostRuntime, image: String, out: &mut MemorySink) -> io::Result<Exit> {
-    let alloc = rt.alloc();
-    let command = String::from_str(alloc, "simulate")?;
-    let raw = String::from_str(alloc, "--raw")?;
-    let words = vec![in alloc; command, image, raw]?;
-    let mut shelf = FileShelf::make(rt, alloc);
-    let mut err = MemorySink::make(alloc, 65_536, Vec::new(alloc));
-    Ok(origin_alone(alloc, &words, &mut shelf, out, &mut err))
-}
-
-/// The bytes that a source writes: hexadecimal digits, with comments from `#` to the end of a line.
-fn bytes_of(alloc: Global, source: &str) -> io::Result<Vec<u8>> {
-    let mut digits = String::new(alloc);
-    for line in source.lines() {
-        let code = line.split('#').next().unwrap_or("");
-        digits.push_str(code.trim())?;
-    }
-    hex::decode(alloc, digits.as_str()).map_err(|_| io::Error::from(io::ErrorKind::InvalidData))
 }

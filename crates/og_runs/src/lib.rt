@@ -9,11 +9,11 @@
 //! An actor's number is a `u8`. A clock and a message number are `u64`s.
 #![tactic(auto)]
 
-ghost use Rattle.std.specs.Prelude.{◌≡◌, ◌+◌, ◌<◌, ◌^◌, OnOk, IfOk, ◌++◌, length, max, ◌≤◌, vec_len, vec_capacity};
+ghost use Rattle.std.specs.Prelude.{◌≡◌, ◌+◌, ◌<◌, ◌^◌, OnOk, IfOk, max};
 ghost use Rattle.std.specs.List.{filter};
 ghost use Rattle.std.specs.List.Sorted.{IsPermutation};
-ghost use Rattle.og_runs.specs.Runs.{InOrder, same_stamp, posted, IsSorted, joined};
-ghost use Rattle.og_runs.specs.World.{find, without, events_of};
+ghost use Rattle.og_runs.specs.Runs.{InOrder, same_stamp, IsSorted, joined};
+ghost use Rattle.og_runs.specs.World.{events_of};
 
 use std::alloc::{AllocError, Global};
 
@@ -104,57 +104,6 @@ pub fn take_stamp(last: u64, message: Stamp, actor: u8) -> Stamp
         clock: clock + 1,
         actor,
     }
-}
-
-/// Sends letters: they become messages with numbers from `first` on and the event's stamp. After
-/// want of memory some of them may have been added.
-pub fn post<K: Copy>(
-    messages: &mut Vec<Msg<K>>,
-    stamp: Stamp,
-    first: u64,
-    letters: &[Letter<K>],
-) -> Result<(), AllocError>
-    requires numbers_fit { first + length letters.now < 2 ^ 64 }
-    ensures sent { OnOk result (messages.new.items ≡ messages.old.items ++ posted stamp.actor stamp.clock first letters.now) }
-{
-    for i in 0..letters.len() {
-        let letter = letters[i];
-        let id = MsgId {
-            sender: stamp.actor,
-            seq: first + i as u64,
-        };
-        messages.push(Msg {
-            id,
-            to: letter.to,
-            stamp,
-            kind: letter.kind,
-        })?;
-    }
-    Ok(())
-}
-
-/// Takes the message with this id out of the list, if it is there. The others keep their order.
-pub fn pull<K: Copy>(messages: &mut Vec<Msg<K>>, id: MsgId) -> Option<Msg<K>>
-    ensures found { result ≡ find id messages.old.items }
-    ensures left { messages.new.items ≡ without id messages.old.items }
-    ensures shorter { vec_len messages.new ≤ vec_len messages.old }
-    ensures capacity { vec_capacity messages.new ≡ vec_capacity messages.old }
-{
-    let found = look(messages, id);
-    messages.retain(|message| message.id != id);
-    found
-}
-
-/// The first message with this id.
-pub fn look<K: Copy>(messages: &[Msg<K>], id: MsgId) -> Option<Msg<K>>
-    ensures { result ≡ find id messages.now }
-{
-    for message in messages {
-        if message.id == id {
-            return Some(*message);
-        }
-    }
-    None
 }
 
 /// Puts events in rising order of stamps. Events with equal stamps keep their order.

@@ -29,19 +29,12 @@ fn logs_merge_by_clock_then_actor(rt: HostRuntime) -> Result<(), Fail> {
     Ok(())
 }
 
-// A letter becomes a message in flight, which is there until it is taken.
+// An act is stamped above its actor's clock, a take above its message's too.
 #[test]
-fn a_message_flies_until_it_is_taken(rt: HostRuntime) -> Result<(), Fail> {
-    let mut messages: Vec<Msg<u8>> = Vec::new(rt.alloc());
-    let letters = [Letter { to: 1, kind: 7u8 }, Letter { to: 2, kind: 8 }];
-    post(&mut messages, act_stamp(4, 0), 3, &letters)?;
-    let id = MsgId { sender: 0, seq: 4 };
-    let taken = pull(&mut messages, id).ok_or("not there")?;
-    assert_eq!(rt; (taken.to, taken.kind, taken.stamp.clock), (2, 8, 5));
-    assert_eq!(rt; take_stamp(2, taken.stamp, 2), Stamp { clock: 6, actor: 2 });
-    assert_eq!(rt;
-        (pull(&mut messages, id).is_none(), messages.len()),
-        (true, 1)
-    );
+fn events_are_stamped_above_what_they_follow(rt: HostRuntime) -> Result<(), Fail> {
+    let sent = act_stamp(4, 0);
+    assert_eq!(rt; sent, Stamp { clock: 5, actor: 0 });
+    assert_eq!(rt; take_stamp(2, sent, 2), Stamp { clock: 6, actor: 2 });
+    assert_eq!(rt; take_stamp(7, sent, 2), Stamp { clock: 8, actor: 2 });
     Ok(())
 }

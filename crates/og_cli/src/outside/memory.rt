@@ -1,6 +1,6 @@
 //! Files and a sink in memory, for tests. Both fail at the calls that they are told to fail at.
 
-ghost use Rattle.std.specs.Prelude.{◌≡◌, ◌≢◌, ℕ, ◌+◌, ◌-◌, ◌^◌, ◌<◌, ◌≤◌, ◌⊎◌, min, List, [], ◌∷◌, ◌++◌, length, take, map, Option, None, Some, Ok, Err, OnOk, OnErr, IfOk, MatchOption, vec_len, string_bytes, Contains};
+ghost use Rattle.std.specs.Prelude.{◌≡◌, ◌≢◌, ℕ, ◌+◌, ◌-◌, ◌^◌, ◌<◌, ◌≤◌, ◌⊎◌, min, List, [], ◌∷◌, ◌++◌, length, take, map, Option, None, Some, Ok, Err, true, OnOk, OnErr, IfOk, MatchOption, vec_len, string_bytes, Contains};
 ghost use Rattle.og_cli.specs.Memory.{entries, one_more};
 ghost use Rattle.og_cli.specs.Outside.{ShelfState, SinkState, file_of, HasFile, HasLongFile, TellsLongFile, AddsName, AddsAtMost, appended, Rises, texts};
 
@@ -74,6 +74,7 @@ fn copy_of(alloc: Global, bytes: &[u8], limit: u64) -> Result<Vec<u8>, ShelfFaul
     ensures copied { IfOk result (λ copy. copy.items ≡ bytes.now) }
     ensures within { IfOk result (λ copy. vec_len copy ≤ limit) }
     ensures too_long { result ≡ Err ShelfFault.TooLong → limit < length bytes.now }
+    ensures long { limit < length bytes.now → result ≡ Err ShelfFault.TooLong }
     ensures no_fault { result ≢ Err ShelfFault.Failed }
 {
     if bytes.len() as u64 > limit {
@@ -82,15 +83,17 @@ fn copy_of(alloc: Global, bytes: &[u8], limit: u64) -> Result<Vec<u8>, ShelfFaul
     Ok(bytes.to_vec(alloc)?)
 }
 
-// The fault of a file that is too long in a call that is told to fail.
-fn long_fault(names: &mut Vec<String>, alloc: Global, name: &str) -> ShelfFault
+// The fault of a call that is told to fail, of a file that is too long or isn't.
+fn told_fault(names: &mut Vec<String>, alloc: Global, name: &str, long: bool) -> ShelfFault
     ensures kept { result ≡ ShelfFault.Failed → AddsName name.now (texts names.old.items) (texts names.new.items) }
     ensures unchanged { result ≢ ShelfFault.Failed → texts names.new.items ≡ texts names.old.items }
-    ensures long { result ≢ ShelfFault.Memory }
+    ensures told { long ≡ true → result ≢ ShelfFault.Memory }
+    ensures cause { result ≡ ShelfFault.TooLong → long ≡ true }
 {
     match name_fault(names, alloc, name) {
         ShelfFault::Failed => ShelfFault::Failed,
-        _ => ShelfFault::TooLong,
+        _ if long => ShelfFault::TooLong,
+        _ => ShelfFault::Memory,
     }
 }
 
@@ -116,11 +119,13 @@ impl Shelf for MemoryShelf {
     {
         self.calls = self.calls.saturating_add(1);
         let fails = self.fails.contains(&self.calls);
-        match find(&self.files, name) {
-            Some(bytes) if !fails => copy_of(alloc, bytes, limit),
-            Some(bytes) if bytes.len() as u64 > limit => Err(long_fault(&mut self.failed, alloc, name)),
-            _ => Err(name_fault(&mut self.failed, alloc, name)),
+        let Some(bytes) = find(&self.files, name) else {
+            return Err(name_fault(&mut self.failed, alloc, name));
+        };
+        if !fails {
+            return copy_of(alloc, bytes, limit);
         }
+        Err(told_fault(&mut self.failed, alloc, name, bytes.len() as u64 > limit))
     }
 }
 

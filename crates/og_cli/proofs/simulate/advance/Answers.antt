@@ -1,4 +1,4 @@
-use Rattle.std.proofs.Common.{◌≡◌, ◌<◌, ◌^◌, length, arith, sym, ◌∙◌}
+use Rattle.std.proofs.Common.{◌≡◌, ◌+◌, ◌<◌, ◌^◌, [], ◌∷◌, ◌++◌, length, arith, sym, ◌∙◌}
 use Rattle.og_runs.specs.Runs.{choices}
 use Rattle.og_core.specs.Machine.{MadeBy}
 use Rattle.og_core.proofs.Reached.{young_made}
@@ -23,10 +23,26 @@ step-requires-clause-young c =
 pub loop-made-preserved : goal.loop-made-preserved
 loop-made-preserved c =
     rw c.in_ok-push.ensures.items (going_next c.args.image.now c.args.machine.now c.loop-made.machine c.step.new.self c.args.most c.loop-made.made c.loop-made.events.items c.in-Some.choice c.in-Ok.event c.loop-made-test.true c.requires.start c.loop-made.invariant
-    (sym c.next_choice.ensures ∙ c.in-Some.is) c.in-Ok.ensures.made c.in-Ok.ensures.kept)
+    (sym c.next_choice.ensures.next ∙ c.in-Some.is) c.in-Ok.ensures.made c.in-Ok.ensures.kept)
+
+pub returns-in_err-push-clause-made : goal.returns-in_err-push-clause-made
+returns-in_err-push-clause-made c =
+    (
+      choices (c.loop-made.events.items ++ c.in-Ok.event ∷ []),
+      c.loop-made.events.items ++ c.in-Ok.event ∷ [],
+      going_made c.args.image.now c.args.machine.now c.step.new.self c.args.most (c.loop-made.made + 1) (c.loop-made.events.items ++ c.in-Ok.event ∷ []) c.requires.start
+      (going_next c.args.image.now c.args.machine.now c.loop-made.machine c.step.new.self c.args.most c.loop-made.made c.loop-made.events.items c.in-Some.choice c.in-Ok.event c.loop-made-test.true c.requires.start c.loop-made.invariant
+      (sym c.next_choice.ensures.next ∙ c.in-Some.is) c.in-Ok.ensures.made c.in-Ok.ensures.kept),
+    )
 
 pub returns-in-None : goal.returns-in-None
-returns-in-None c = going_stop c.args.image.now c.args.machine.now c.loop-made.machine c.args.most c.loop-made.made c.loop-made.events.items c.loop-made.auto.made-end c.requires.start c.loop-made.invariant (sym c.next_choice.ensures ∙ c.in-None.is)
+returns-in-None c = record {
+  advanced = going_stop c.args.image.now c.args.machine.now c.loop-made.machine c.args.most c.loop-made.made c.loop-made.events.items c.loop-made.auto.made-end c.requires.start c.loop-made.invariant (sym c.next_choice.ensures.next ∙ c.in-None.is);
+  made = (choices c.loop-made.events.items, c.loop-made.events.items, going_made c.args.image.now c.args.machine.now c.loop-made.machine c.args.most c.loop-made.made c.loop-made.events.items c.requires.start c.loop-made.invariant);
+}
 
 pub returns : goal.returns
-returns c = going_end c.args.image.now c.args.machine.now c.loop-made.machine c.args.most c.loop-made.made c.loop-made.events.items (omega arith) c.loop-made.invariant
+returns c = record {
+  advanced = going_end c.args.image.now c.args.machine.now c.loop-made.machine c.args.most c.loop-made.made c.loop-made.events.items (omega arith) c.loop-made.invariant;
+  made = (choices c.loop-made.events.items, c.loop-made.events.items, going_made c.args.image.now c.args.machine.now c.loop-made.machine c.args.most c.loop-made.made c.loop-made.events.items c.requires.start c.loop-made.invariant);
+}

@@ -1,0 +1,10 @@
+//! The program `origin` once more, for a stored run that doesn't end quiet: its status is that of a run
+//! at its limit.
+#![tactic(auto)]
+
+use og_cli::program::run_program;
+use std::process::ExitCode;
+
+fn main(rt: HostRuntime) -> ExitCode {
+    ExitCode::from(run_program(&rt))
+}
