@@ -1,20 +1,20 @@
 -- Every row keeps the invariant.
 use Rattle.std.proofs.Common.{ℕ, ◌<◌}
-use Rattle.og_block.proofs.Kept_home.{home_kept}
-use Rattle.og_block.proofs.Kept_asks.{asks_kept}
-use Rattle.og_block.proofs.Kept_rests.{rests_kept}
-use Rattle.og_block.proofs.Kept_backs.{backs_kept}
-use Rattle.og_block.proofs.Kept_owned.{owned_kept}
-use Rattle.og_block.proofs.Kept_spent.{spent_kept}
-use Rattle.og_block.proofs.Kept_waits.{waits_kept}
-use Rattle.og_block.proofs.Kept_trusted.{trusted_kept}
-use Rattle.og_block.proofs.Kept_intervened.{intervened_kept}
-use Rattle.og_block.proofs.Kept_early.{early_kept}
-use Rattle.og_block.proofs.Kept_sent.{sent_kept}
-use Rattle.og_block.proofs.Kept_fresh.{fresh_kept}
-use Rattle.og_block.proofs.Kept_covered.{covered_kept}
-use Rattle.og_block.proofs.Kept_counted.{counted_kept}
-use Rattle.og_block.proofs.Kept_upgrades.{upgrades_kept}
+use Rattle.og_block.proofs.KeptHome.{home_kept}
+use Rattle.og_block.proofs.KeptAsks.{asks_kept}
+use Rattle.og_block.proofs.KeptRests.{rests_kept}
+use Rattle.og_block.proofs.KeptBacks.{backs_kept}
+use Rattle.og_block.proofs.KeptOwned.{owned_kept}
+use Rattle.og_block.proofs.KeptSpent.{spent_kept}
+use Rattle.og_block.proofs.KeptWaits.{waits_kept}
+use Rattle.og_block.proofs.KeptTrusted.{trusted_kept}
+use Rattle.og_block.proofs.KeptIntervened.{intervened_kept}
+use Rattle.og_block.proofs.KeptEarly.{early_kept}
+use Rattle.og_block.proofs.KeptSent.{sent_kept}
+use Rattle.og_block.proofs.KeptFresh.{fresh_kept}
+use Rattle.og_block.proofs.KeptCovered.{covered_kept}
+use Rattle.og_block.proofs.KeptCounted.{counted_kept}
+use Rattle.og_block.proofs.KeptUpgrades.{upgrades_kept}
 use Rattle.og_block.specs.State.{Block}
 use Rattle.og_block.specs.Access.{flat_after}
 use Rattle.og_block.specs.Rows.{Row, guard, apply, actor_of}

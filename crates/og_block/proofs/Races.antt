@@ -4,7 +4,7 @@ use Rattle.std.proofs.lemmas.Bool.Decides.{nat_tests}
 use Rattle.og_slots.proofs.Count.{count_some}
 use Rattle.og_block.proofs.All.{kept}
 use Rattle.og_block.proofs.Alone.{holder_is_one}
-use Rattle.og_block.proofs.Kept_handed.{handed_kept}
+use Rattle.og_block.proofs.KeptHanded.{handed_kept}
 use Rattle.og_block.specs.State.{Copy, NoCopy, Shared, Want, Ask, Upgrade, Response, Back, Invalidation, SharedBy, BusyExclusive, Revision, NoRevision, DirtyTransfer, Single, Sharing, Block, start}
 use Rattle.og_block.specs.Rows.{Row, apply, actor_of, has_exclusive}
 use Rattle.og_block.specs.Access.{flat_after}

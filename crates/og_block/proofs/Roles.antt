@@ -1,10 +1,10 @@
 -- Each plays its part from the start on.
 use Rattle.std.proofs.Common.{◌≡◌, ℕ, ◌<◌, arith, refl, sym, subst, List, [], ◌∷◌}
 use Rattle.og_block.proofs.All.{kept}
-use Rattle.og_block.proofs.Kept_mover.{mover_kept}
-use Rattle.og_block.proofs.Kept_plain.{plain_kept}
-use Rattle.og_block.proofs.Kept_ends.{ends_kept}
-use Rattle.og_block.proofs.Kept_reply.{reply_kept}
+use Rattle.og_block.proofs.KeptMover.{mover_kept}
+use Rattle.og_block.proofs.KeptPlain.{plain_kept}
+use Rattle.og_block.proofs.KeptEnds.{ends_kept}
+use Rattle.og_block.proofs.KeptReply.{reply_kept}
 use Rattle.og_block.specs.State.{Sharing, Block, start}
 use Rattle.og_block.specs.Access.{flat_after}
 use Rattle.og_block.specs.Rows.{Row, guard, apply, actor_of}
