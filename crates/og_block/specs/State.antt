@@ -7,6 +7,7 @@
 --
 -- `L` is the type of a line. No row looks inside a line.
 pub use Rattle.og_slots.specs.Count.{count}
+pub use Rattle.og_slots.specs.Columns.{put}
 use Rattle.std.specs.Prelude.{ℕ, Bool, cond, not, ◌&&◌, nat_eq}
 
 -- a node's copy of the block; a clean or dirty copy may be written
@@ -119,10 +120,6 @@ pub record Block (L : Type 0) : Type 0 where
   pub victim : ℕ → Victim
   pub intervention : ℕ → Intervention
   pub invalidation : ℕ → Invalidation
-
--- a column with another value at p
-abbrev pub put : {A : Type 0} → (ℕ → A) → ℕ → A → ℕ → A
-put f p x q = cond (nat_eq q p) x (f q)
 
 -- the sharers without p
 abbrev pub others : (ℕ → Bool) → ℕ → ℕ → Bool

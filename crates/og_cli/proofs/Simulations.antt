@@ -127,7 +127,7 @@ going_stop image m n most i es le start g none =
       kept = g.kept;
       run = g.run;
       is_drawn = g.rest ∙ ap (λ (p : World NodeState Kind × List (Event Note)). (p.0, es ++ p.1)) last ∙ ap (λ (l : List (Event Note)). (n.world, l)) (append-nil es);
-      few = let h : length es ≡ i = g.count in omega arith;
+      within = let h : length es ≡ i = g.count in omega arith;
       full = λ no. absurd (cc);
     }
 
@@ -140,7 +140,7 @@ going_end image m n most i es all g =
       kept = g.kept;
       run = g.run;
       is_drawn = g.rest ∙ ap (λ (p : World NodeState Kind × List (Event Note)). (p.0, es ++ p.1)) last ∙ ap (λ (l : List (Event Note)). (n.world, l)) (append-nil es);
-      few = let h : length es ≡ i = g.count in omega arith;
+      within = let h : length es ≡ i = g.count in omega arith;
       full = λ no. g.count ∙ all;
     }
 
@@ -190,7 +190,7 @@ simulated image m n most es fs start a same sort =
       is_drawn = subst (λ (p : World NodeState Kind × List (Event Note)). IsSorted p.1 fs) (sym a.is_drawn) sort;
       quiet_is = quiet;
       full = λ no. count ∙ a.full no;
-      few = let h : length es ≤ most = a.few in omega arith;
+      within = let h : length es ≤ most = a.within in omega arith;
       flat = (made_sound image (record m { world = r.0 }) (choices fs) fs made).1;
       copies = λ before after w is run. copies_flat image m before w start run;
     }

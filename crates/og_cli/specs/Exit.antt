@@ -35,15 +35,15 @@ fault_text (fault.NoFrames need have) = codes "origin: image NoFrames need " ++ 
 fault_text fault.TooLong = codes "origin: image TooLong" ++ 10 ∷ []
 
 -- the one line on the standard error, nothing where a run was printed; the name is that of the file
-abbrev pub told_of : List ℕ → Exit → List ℕ
-told_of name exit.Words = codes "origin: words" ++ 10 ∷ []
-told_of name exit.NotBuilt = codes "origin: not built" ++ 10 ∷ []
-told_of name exit.ShelfFault = codes "origin: cannot read " ++ (name ++ 10 ∷ [])
-told_of name (exit.Image f) = fault_text f
-told_of name exit.Memory = codes "origin: memory" ++ 10 ∷ []
-told_of name exit.SinkFault = codes "origin: cannot write" ++ 10 ∷ []
-told_of name exit.Limit = []
-told_of name exit.Quiet = []
+abbrev pub error_line : List ℕ → Exit → List ℕ
+error_line name exit.Words = codes "origin: words" ++ 10 ∷ []
+error_line name exit.NotBuilt = codes "origin: not built" ++ 10 ∷ []
+error_line name exit.ShelfFault = codes "origin: cannot read " ++ (name ++ 10 ∷ [])
+error_line name (exit.Image f) = fault_text f
+error_line name exit.Memory = codes "origin: memory" ++ 10 ∷ []
+error_line name exit.SinkFault = codes "origin: cannot write" ++ 10 ∷ []
+error_line name exit.Limit = []
+error_line name exit.Quiet = []
 
 -- ------------------------------------------------------------ the image
 
@@ -181,8 +181,8 @@ name_of None = []
 name_of (Some job) = job.name
 
 -- the answer's line was appended to the standard error, or some first bytes of it where a count of the sink rose
-abbrev pub IsTold : List ℕ → SinkState → SinkState → Type 0
-IsTold text old new = (new ≡ with_appended old text) ⊎ CutByFault text old new ⊎ CutByWant text old new
+abbrev pub IsReported : List ℕ → SinkState → SinkState → Type 0
+IsReported text old new = (new ≡ with_appended old text) ⊎ CutByFault text old new ⊎ CutByWant text old new
 
 -- the answer to words that aren't understood, or for want of memory
 abbrev pub refused_of : WordsFault → Exit
@@ -191,6 +191,6 @@ refused_of words.Memory = exit.Memory
 
 -- the status is that of an answer with which the command ends, and of which the standard error tells
 abbrev pub EndsWithStatus : Option JobState → ShelfState → ShelfState → SinkState → SinkState → SinkState → SinkState → ℕ → Type 0
-EndsWithStatus asked shelf after old new told_before told_after status =
+EndsWithStatus asked shelf after old new err_before err_after status =
     (answer : Exit) × (status ≡ status_of answer) × CommandEnds asked shelf after old new answer × EndsUnhindered asked shelf after old new answer
-    × IsTold (told_of (name_of asked) answer) told_before told_after
+    × IsReported (error_line (name_of asked) answer) err_before err_after

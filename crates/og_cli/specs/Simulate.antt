@@ -22,7 +22,7 @@ pub record IsAdvanced (image : ImageState) (m n : MachineState) (most : ℕ) (ev
   pub kept : n ≡ record m { world = n.world }
   pub run : WorldRun (rules (setup_in image m)) m.world (choices events) n.world events
   pub is_drawn : drawn (setup_in image m) most m.world ≡ (n.world, events)
-  pub few : length events ≤ most
+  pub within : length events ≤ most
   pub full : is_quiet n.world ≡ false → length events ≡ most
 
 -- a state of the machine m after these events: there is one node, so no other has a copy of what it may write; and the
@@ -52,7 +52,7 @@ pub record IsSimulated (image : ImageState) (m : MachineState) (most : ℕ) (eve
   pub quiet_is : quiet ≡ is_quiet end
   -- where it isn't quiet, all events were made
   pub full : quiet ≡ false → length events ≡ most
-  pub few : length events ≤ most
+  pub within : length events ≤ most
   -- what the harts did is a flat run
   pub flat : FlatRun (setup_in image m) (hart_notes events)
   -- in each state of the run, the copies are flat memory's after the events so far

@@ -63,7 +63,7 @@ impl From<AllocError> for ShelfFault {
     }
 }
 
-// Keeps a name.
+/// Keeps a name.
 fn keep_name(names: &mut Vec<String>, alloc: Global, name: &str) -> Result<(), AllocError>
     ensures kept { OnOk result (AddsName name.now (texts names.old.items) (texts names.new.items)) }
     ensures unchanged { OnErr result (texts names.new.items ≡ texts names.old.items) }
@@ -72,7 +72,7 @@ fn keep_name(names: &mut Vec<String>, alloc: Global, name: &str) -> Result<(), A
     Ok(())
 }
 
-// Keeps the name of a file that could not be read, and says what the fault is.
+/// Keeps the name of a file that could not be read, and says what the fault is.
 fn name_fault(names: &mut Vec<String>, alloc: Global, name: &str) -> ShelfFault
     ensures kept { result ≡ ShelfFault.Failed → AddsName name.now (texts names.old.items) (texts names.new.items) }
     ensures unchanged { result ≢ ShelfFault.Failed → texts names.new.items ≡ texts names.old.items }
@@ -93,7 +93,7 @@ pub trait Sink {
     fn write(&mut self, piece: &[u8]) -> Result<usize, SinkFault>
         ensures empty { piece.now ≡ [] → (result ≡ Ok 0) × (seen self.new ≡ seen self.old) }
         ensures taken { IfOk result (λ n. n ≤ length piece.now) }
-        ensures some { piece.now ≢ [] → IfOk result (λ n. 1 ≤ n) }
+        ensures at_least_one { piece.now ≢ [] → IfOk result (λ n. 1 ≤ n) }
         ensures appends { IfOk result (λ n. (seen self.new).held ≡ appended (seen self.old).held (take n piece.now)) }
         ensures nothing { OnErr result ((seen self.new).held ≡ (seen self.old).held) }
         ensures fault { result ≡ Err SinkFault.Failed → Rises (seen self.old).faults (seen self.new).faults }
@@ -105,17 +105,17 @@ pub trait Sink {
 /// The most that is handed to a sink at once.
 const PIECE_BYTES: usize = 65_536;
 
-// The first bytes of the text, as many as are handed to a sink at once.
+/// The first bytes of the text, as many as are handed to a sink at once.
 fn first_piece(text: &[u8]) -> &[u8]
     ensures { result.now ≡ take PIECE_BYTES text.now }
 {
     &text[..text.len().min(PIECE_BYTES)]
 }
 
-// Hands the first bytes of the text to the sink, and says how many it took.
+/// Hands the first bytes of the text to the sink, and says how many it took.
 fn write_piece<K: Sink>(sink: &mut K, text: &[u8]) -> Result<usize, SinkFault>
     ensures taken { IfOk result (λ n. n ≤ length text.now) }
-    ensures some { text.now ≢ [] → IfOk result (λ n. 1 ≤ n) }
+    ensures at_least_one { text.now ≢ [] → IfOk result (λ n. 1 ≤ n) }
     ensures appends { IfOk result (λ n. (K.seen sink.new).held ≡ appended (K.seen sink.old).held (take n text.now)) }
     ensures nothing { OnErr result ((K.seen sink.new).held ≡ (K.seen sink.old).held) }
     ensures fault { result ≡ Err SinkFault.Failed → Rises (K.seen sink.old).faults (K.seen sink.new).faults }

@@ -8,7 +8,7 @@ ghost use Rattle.og_core.specs.Machine.{start_of};
 ghost use Rattle.og_cli.specs.Outside.{TellsLongFile, parts_text, texts};
 ghost use Rattle.og_cli.specs.Simulate.{IsSimulated};
 ghost use Rattle.og_cli.specs.Text.{text_of};
-ghost use Rattle.og_cli.specs.Exit.{fault_text, refused_of, default_settings, is_built, JobEnds, CommandEnds, EndsUnhindered, IsTold, name_of, PrintEnds, ended_of, RunEnds, IsRunText, image_of, image_fault, told_of};
+ghost use Rattle.og_cli.specs.Exit.{fault_text, refused_of, default_settings, is_built, JobEnds, CommandEnds, EndsUnhindered, IsReported, name_of, PrintEnds, ended_of, RunEnds, IsRunText, image_of, image_fault, error_line};
 ghost use Rattle.og_cli.specs.Words.{job_seen, job_of};
 
 use crate::exit::{Exit, ImageFault};
@@ -125,25 +125,25 @@ fn settings(nodes: u8, instructions: u32) -> Settings
 }
 
 /// Writes a line in parts; a failure changes nothing else.
-fn tell_parts<E: Sink>(parts: &[&[u8]], err: &mut E)
-    ensures { IsTold (parts_text parts.now) (E.seen err.old) (E.seen err.new) }
+fn report_parts<E: Sink>(parts: &[&[u8]], err: &mut E)
+    ensures { IsReported (parts_text parts.now) (E.seen err.old) (E.seen err.new) }
 {
     let _told = write_parts(err, parts);
 }
 
 /// Writes why an image is refused.
-fn tell_fault<E: Sink>(fault: ImageFault, err: &mut E)
-    ensures { IsTold (fault_text fault) (E.seen err.old) (E.seen err.new) }
+fn report_fault<E: Sink>(fault: ImageFault, err: &mut E)
+    ensures { IsReported (fault_text fault) (E.seen err.old) (E.seen err.new) }
 {
     match fault {
-        ImageFault::Raw => tell_parts(&[b"origin: image RawOut", b"\n"], err),
-        ImageFault::TooLong => tell_parts(&[b"origin: image TooLong", b"\n"], err),
+        ImageFault::Raw => report_parts(&[b"origin: image RawOut", b"\n"], err),
+        ImageFault::TooLong => report_parts(&[b"origin: image TooLong", b"\n"], err),
         ImageFault::NoFrames { need, have } => {
             let mut first = Buffer::new();
             let mut second = Buffer::new();
             let need = first.format(need).as_bytes();
             let have = second.format(have).as_bytes();
-            tell_parts(
+            report_parts(
                 &[
                     b"origin: image NoFrames need ",
                     need,
@@ -158,18 +158,18 @@ fn tell_fault<E: Sink>(fault: ImageFault, err: &mut E)
 }
 
 /// Writes the one line that tells the answer.
-fn tell<E: Sink>(exit: &Exit, name: &str, err: &mut E)
-    ensures { IsTold (told_of name.now exit.now) (E.seen err.old) (E.seen err.new) }
+fn report<E: Sink>(exit: &Exit, name: &str, err: &mut E)
+    ensures { IsReported (error_line name.now exit.now) (E.seen err.old) (E.seen err.new) }
 {
     match *exit {
-        Exit::Words => tell_parts(&[b"origin: words", b"\n"], err),
-        Exit::NotBuilt => tell_parts(&[b"origin: not built", b"\n"], err),
+        Exit::Words => report_parts(&[b"origin: words", b"\n"], err),
+        Exit::NotBuilt => report_parts(&[b"origin: not built", b"\n"], err),
         Exit::ShelfFault => {
-            tell_parts(&[b"origin: cannot read ", name.as_bytes(), b"\n"], err);
+            report_parts(&[b"origin: cannot read ", name.as_bytes(), b"\n"], err);
         }
-        Exit::Image(fault) => tell_fault(fault, err),
-        Exit::Memory => tell_parts(&[b"origin: memory", b"\n"], err),
-        Exit::SinkFault => tell_parts(&[b"origin: cannot write", b"\n"], err),
+        Exit::Image(fault) => report_fault(fault, err),
+        Exit::Memory => report_parts(&[b"origin: memory", b"\n"], err),
+        Exit::SinkFault => report_parts(&[b"origin: cannot write", b"\n"], err),
         Exit::Limit | Exit::Quiet => {}
     }
 }
@@ -185,27 +185,27 @@ pub fn origin_alone<F: Shelf, K: Sink, E: Sink>(
 ) -> Exit
     ensures ends { CommandEnds (job_of (texts words.now)) (F.seen shelf.old) (F.seen shelf.new) (K.seen out.old) (K.seen out.new) result }
     ensures unhindered { EndsUnhindered (job_of (texts words.now)) (F.seen shelf.old) (F.seen shelf.new) (K.seen out.old) (K.seen out.new) result }
-    ensures told { IsTold (told_of (name_of (job_of (texts words.now))) result) (E.seen err.old) (E.seen err.new) }
+    ensures reported { IsReported (error_line (name_of (job_of (texts words.now))) result) (E.seen err.old) (E.seen err.new) }
 {
     let job = match read_words(alloc, words) {
         Ok(job) => job,
         Err(fault) => return refuse(fault, err),
     };
     let exit = perform(alloc, &job, shelf, out);
-    tell(&exit, job.name.as_str(), err);
+    report(&exit, job.name.as_str(), err);
     exit
 }
 
 /// The answer to words that aren't understood, or for want of memory.
 fn refuse<E: Sink>(fault: WordsFault, err: &mut E) -> Exit
     ensures answer { result ≡ refused_of fault }
-    ensures told { IsTold (told_of [] result) (E.seen err.old) (E.seen err.new) }
+    ensures reported { IsReported (error_line [] result) (E.seen err.old) (E.seen err.new) }
 {
     let exit = match fault {
         WordsFault::Words => Exit::Words,
         WordsFault::Memory => Exit::Memory,
     };
-    tell(&exit, "", err);
+    report(&exit, "", err);
     exit
 }
 

@@ -46,7 +46,7 @@ impl From<AllocError> for WordsFault {
     }
 }
 
-// What the options chose so far.
+/// What the options chose so far.
 #[derive(Clone, Copy)]
 struct Choices {
     raw: bool,
@@ -62,7 +62,7 @@ const NO_CHOICES: Choices = Choices {
     instructions: None,
 };
 
-// The number that the word writes, if that is its decimal text and it is in this range.
+/// The number that the word writes, if that is its decimal text and it is in this range.
 fn number_in(word: &str, low: u32, high: u32) -> Option<u32>
     ensures value { result ≡ number_of low high word.now }
     ensures in_range { IfSome result (λ n. (low ≤ n) × (n ≤ high)) }
@@ -77,7 +77,7 @@ fn number_in(word: &str, low: u32, high: u32) -> Option<u32>
     }
 }
 
-// The same, if no number was chosen before.
+/// The same, if no number was chosen before.
 fn first_number(before: Option<u32>, low: u32, high: u32, word: &str) -> Option<u32>
     ensures value { result ≡ number_chosen before low high word.now }
     ensures in_range { IfSome result (λ n. (low ≤ n) × (n ≤ high)) }
@@ -88,7 +88,7 @@ fn first_number(before: Option<u32>, low: u32, high: u32, word: &str) -> Option<
     }
 }
 
-// The choices after `--raw`.
+/// The choices after `--raw`.
 fn choose_raw(choices: Choices) -> Option<Choices>
     requires { AreInRange choices }
     ensures value { result ≡ raw_chosen choices }
@@ -103,7 +103,7 @@ fn choose_raw(choices: Choices) -> Option<Choices>
     })
 }
 
-// The choices after an option that takes a number, and its value.
+/// The choices after an option that takes a number, and its value.
 fn choose_number(choices: Choices, option: &str, value: &str) -> Option<Choices>
     requires { AreInRange choices }
     ensures value { result ≡ chosen choices option.now value.now }
@@ -122,7 +122,7 @@ fn choose_number(choices: Choices, option: &str, value: &str) -> Option<Choices>
     Some(after)
 }
 
-// The choices after these words, if they are options with their values, and none is given twice.
+/// The choices after these words, if they are options with their values, and none is given twice.
 fn read_options(choices: Choices, words: &[String]) -> Option<Choices>
     requires { AreInRange choices }
     ensures value { result ≡ options_of choices (texts words.now) }
@@ -145,7 +145,7 @@ fn begins_with_dash(name: &str) -> bool
     matches!(name.as_bytes(), [b'-', ..])
 }
 
-// The name and the choices of a line that is accepted.
+/// The name and the choices of a line that is accepted.
 fn read_line(words: &[String]) -> Option<(&str, Choices)>
     ensures value { MatchOption result (job_of (texts words.now) ≡ None) (λ line. job_of (texts words.now) ≡ Some (job_with line.0.now line.1)) }
     ensures in_range { IfSome result (λ line. AreInRange line.1) }
@@ -160,7 +160,7 @@ fn read_line(words: &[String]) -> Option<(&str, Choices)>
     Some((name.as_str(), choices))
 }
 
-// The job with this name, its numbers as chosen or else the usual ones.
+/// The job with this name, its numbers as chosen or else the usual ones.
 fn job_from(name: String, choices: Choices) -> Job
     requires { AreInRange choices }
     ensures value { job_seen result ≡ job_with (string_bytes name) choices }

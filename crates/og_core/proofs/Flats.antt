@@ -11,30 +11,30 @@ use Rattle.rv_hart.specs.Image.{ImageState}
 use Rattle.rv_hart.proofs.HartFacts.{finish_keeps, finish_left}
 use Rattle.og_core.specs.declared.msg.Note.{Note}
 use Rattle.og_core.specs.declared.msg.Note.TheVariants as note
-use Rattle.og_core.specs.FlatRun.{goes_on, settled_within, settled, FlatState, with_hart, MayNote, hart_next, memory_next, flat_step, FlatRunFrom, hart_notes, with_note, of_hart}
+use Rattle.og_core.specs.FlatRun.{goes_on, at_need_within, at_need, FlatState, with_hart, MayNote, hart_next, memory_next, flat_step, FlatRunFrom, hart_notes, with_note, of_hart}
 use Rattle.og_core.specs.HartRuns.{HartMove, HartsRun, IsNotedInside, Stops, Answered, AnswersFlat, flat_noted}
 
 -- the machine's hart h has come further than the flat run's f by instructions that need nothing
 pub record Behind (image : ImageState) (f h : HartState) : Type 0 where
-  pub same : settled image f ≡ settled image h
+  pub same : at_need image f ≡ at_need image h
   pub cause : f.cause ≡ h.cause
 
 -- a hart that needs something stays where it is
-stays : (image : ImageState) (n : ℕ) (h : HartState) → goes_on (need_of image h) ≡ false → settled_within image n h ≡ h
-unfolding settled_within
+stays : (image : ImageState) (n : ℕ) (h : HartState) → goes_on (need_of image h) ≡ false → at_need_within image n h ≡ h
+unfolding at_need_within
 stays image zero h is = refl
 stays image (suc n) h is = rw is refl
 
-one_on : (image : ImageState) (n : ℕ) (h : HartState) → need_of image h ≡ need.Plain → settled_within image (suc n) h ≡ settled_within image n (finish_of image h 0)
-unfolding settled_within
+one_on : (image : ImageState) (n : ℕ) (h : HartState) → need_of image h ≡ need.Plain → at_need_within image (suc n) h ≡ at_need_within image n (finish_of image h 0)
+unfolding at_need_within
 one_on image n h plain = rw plain refl
 
 -- a hart that needs nothing goes on
-moves_on : (image : ImageState) (h : HartState) → need_of image h ≡ need.Plain → settled image h ≡ settled image (finish_of image h 0)
+moves_on : (image : ImageState) (h : HartState) → need_of image h ≡ need.Plain → at_need image h ≡ at_need image (finish_of image h 0)
 moves_on image h plain =
     let left : (finish_of image h 0).left + 1 ≡ h.left = finish_left image h 0 (λ cause is. absurd (cc)) in
     let more : h.left ≡ suc (finish_of image h 0).left = omega arith in
-    ap (λ (n : ℕ). settled_within image n h) more ∙ one_on image (finish_of image h 0).left h plain
+    ap (λ (n : ℕ). at_need_within image n h) more ∙ one_on image (finish_of image h 0).left h plain
 
 -- harts where one has changed
 hart_same : (harts : ℕ → HartState) (p q : ℕ) (h : HartState) → q ≡ p → with_hart harts p h q ≡ h
@@ -68,23 +68,23 @@ quiet_move image f h after b (inr on) =
     subst (λ (k : HartState). Behind image f k) (sym on.2) next
 
 -- where the machine's hart needs something, the flat run's hart has come as far
-arrived : (image : ImageState) (f h : HartState) → Behind image f h → goes_on (need_of image h) ≡ false → settled image f ≡ h
+arrived : (image : ImageState) (f h : HartState) → Behind image f h → goes_on (need_of image h) ≡ false → at_need image f ≡ h
 arrived image f h b is = b.same ∙ stays image h.left h is
 
 -- the entry that a hart's move makes, and what it leaves
 record Enters (image : ImageState) (s : FlatState) (p : ℕ) (noted : Note) (after : HartState) : Type 0 where
   runs : (s.harts p).cause ≡ None
-  entry : MayNote s p (settled image (s.harts p)) (need_of image (settled image (s.harts p))) noted
-  next : hart_next image (settled image (s.harts p)) (need_of image (settled image (s.harts p))) noted ≡ after
+  entry : MayNote s p (at_need image (s.harts p)) (need_of image (at_need image (s.harts p))) noted
+  next : hart_next image (at_need image (s.harts p)) (need_of image (at_need image (s.harts p))) noted ≡ after
 
 enters_by : (image : ImageState) (s : FlatState) (p : ℕ) (noted : Note) (h after : HartState) (d : Need) → Behind image (s.harts p) h → h.cause ≡ None → need_of image h ≡ d → goes_on d ≡ false → MayNote s p h d noted → hart_next image h d noted ≡ after → Enters image s p noted after
 enters_by image s p noted h after d b runs is needs entry next =
-    let there : settled image (s.harts p) ≡ h = arrived image (s.harts p) h b (rw is needs) in
-    let need_is : need_of image (settled image (s.harts p)) ≡ d = ap (λ (k : HartState). need_of image k) there ∙ is in
+    let there : at_need image (s.harts p) ≡ h = arrived image (s.harts p) h b (rw is needs) in
+    let need_is : need_of image (at_need image (s.harts p)) ≡ d = ap (λ (k : HartState). need_of image k) there ∙ is in
     record {
       runs = b.cause ∙ runs;
-      entry = subst (λ (k : HartState). MayNote s p k (need_of image (settled image (s.harts p))) noted) (sym there) (subst (λ (e : Need). MayNote s p h e noted) (sym need_is) entry);
-      next = ap (λ (k : HartState). hart_next image k (need_of image (settled image (s.harts p))) noted) there ∙ ap (λ (e : Need). hart_next image h e noted) need_is ∙ next;
+      entry = subst (λ (k : HartState). MayNote s p k (need_of image (at_need image (s.harts p))) noted) (sym there) (subst (λ (e : Need). MayNote s p h e noted) (sym need_is) entry);
+      next = ap (λ (k : HartState). hart_next image k (need_of image (at_need image (s.harts p))) noted) there ∙ ap (λ (e : Need). hart_next image h e noted) need_is ∙ next;
     }
 
 stop_enters : (image : ImageState) (s : FlatState) (p : ℕ) (noted : Note) (h after : HartState) → Behind image (s.harts p) h → Stops image h noted after → Enters image s p noted after
@@ -139,8 +139,8 @@ flat_from image s hs (e ∷ es) all run answered = at e.note run.1 run.2 answere
         by (inl mine) =
             let x : Enters image s e.stamp.actor noted run.0 = enters image s e.stamp.actor noted (hs e.stamp.actor) run.0 (all e.stamp.actor) mine m a in
             let t : FlatState = flat_step image s e.stamp.actor noted in
-            let both : Behind image (hart_next image (settled image (s.harts e.stamp.actor)) (need_of image (settled image (s.harts e.stamp.actor))) noted) run.0 = rw x.next (record { same = refl; cause = refl }) in
-            rw mine (inside mine, x.runs, x.entry, rest t (behind_with image s.harts hs e.stamp.actor (hart_next image (settled image (s.harts e.stamp.actor)) (need_of image (settled image (s.harts e.stamp.actor))) noted) run.0 all both) (subst (λ (f : Flat). Answered f es) (sym (memory_same s.flat e.stamp.actor noted)) left))
+            let both : Behind image (hart_next image (at_need image (s.harts e.stamp.actor)) (need_of image (at_need image (s.harts e.stamp.actor))) noted) run.0 = rw x.next (record { same = refl; cause = refl }) in
+            rw mine (inside mine, x.runs, x.entry, rest t (behind_with image s.harts hs e.stamp.actor (hart_next image (at_need image (s.harts e.stamp.actor)) (need_of image (at_need image (s.harts e.stamp.actor))) noted) run.0 all both) (subst (λ (f : Flat). Answered f es) (sym (memory_same s.flat e.stamp.actor noted)) left))
         by (inr other) =
             let y : (run.0 ≡ hs e.stamp.actor) × (flat_noted s.flat e.stamp.actor (Some noted) ≡ s.flat) = mover_stays image s.flat e.stamp.actor noted (hs e.stamp.actor) run.0 other m in
             rw other (rest s (behind_on image s.harts hs e.stamp.actor run.0 all (rw y.0 (all e.stamp.actor))) (subst (λ (f : Flat). Answered f es) y.1 left))

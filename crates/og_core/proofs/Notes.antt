@@ -12,7 +12,7 @@ use Rattle.og_line.specs.declared.Access.{Access}
 use Rattle.og_core.specs.declared.msg.Note.{Note}
 use Rattle.og_core.specs.declared.msg.Note.TheVariants as note
 use Rattle.og_core.specs.Node.{stop_note}
-use Rattle.og_core.specs.FlatRun.{FlatState, MayNote, FlatRunFrom, flat_step, flat_after, settled, of_hart, with_note, hart_notes}
+use Rattle.og_core.specs.FlatRun.{FlatState, MayNote, FlatRunFrom, flat_step, flat_after, at_need, of_hart, with_note, hart_notes}
 use Rattle.og_core.specs.Laws.{IsHartNote, IsNeed}
 
 hart_note : (noted : Note) → IsHartNote noted → of_hart noted ≡ true
@@ -75,7 +75,7 @@ noted_need image s p h (note.Freed frame) (need.Emit needed) is may = absurd may
 noted_need image s p h noted need.Plain is may = absurd may
 
 pub entry_needed : (image : ImageState) (s : FlatState) (before after : List (ℕ × Note)) (p : ℕ) (noted : Note) → FlatRunFrom image s (before ++ (p, noted) ∷ after) →
-    (p < image.nodes) × (((flat_after image s before).harts p).cause ≡ None) × IsNeed image (flat_after image s before) p (settled image ((flat_after image s before).harts p)) noted
+    (p < image.nodes) × (((flat_after image s before).harts p).cause ≡ None) × IsNeed image (flat_after image s before) p (at_need image ((flat_after image s before).harts p)) noted
 entry_needed image s [] after p noted run =
-    (run.0, run.1, noted_need image s p (settled image (s.harts p)) noted (need_of image (settled image (s.harts p))) refl run.2)
+    (run.0, run.1, noted_need image s p (at_need image (s.harts p)) noted (need_of image (at_need image (s.harts p))) refl run.2)
 entry_needed image s (e ∷ es) after p noted run = entry_needed image (flat_step image s e.0 e.1) es after p noted run.3

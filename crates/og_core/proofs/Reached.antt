@@ -29,9 +29,9 @@ use Rattle.rv_hart.proofs.Pages.{pages_rise}
 use Rattle.og_core.specs.declared.msg.Kind.{Kind}
 use Rattle.og_core.specs.declared.msg.Note.{Note}
 use Rattle.rv_hart.specs.Image.{is_data_of}
-use Rattle.og_core.specs.Node.{NodeState, Setup, rules, act_of, take_of, can_act_of, can_act_by, by_state, by_need, by_block, by_copy, block_at, block_number, home_number, IsYoung, IsLow}
+use Rattle.og_core.specs.Node.{NodeState, Setup, rules, act_of, take_of, can_act_of, can_act_by, by_state, by_need, by_block, by_copy, block_at, block_number, home_number, IsLowNode, IsLowMessage}
 use Rattle.og_core.specs.Start.{stack_end}
-use Rattle.og_core.specs.Machine.{MachineState, IsMade, IsYoungWorld, IsFor, MadeBy, start_world, new_seat, setup_in}
+use Rattle.og_core.specs.Machine.{MachineState, IsMade, IsYoung, IsFor, MadeBy, start_world, new_seat, setup_in}
 use Rattle.og_core.specs.FlatRun.{with_hart, flat_begin, FlatRun, hart_notes}
 use Rattle.og_core.specs.HartRuns.{HartsRun, IsNotedInside, HartMove, Answered, AnswersFlat, flat_noted, flat_end}
 use Rattle.og_core.proofs.Sound.{Sound, NodeSound, Sizes, Going, Asks}
@@ -174,26 +174,26 @@ take_row image m a x i message made there found =
     (subst (λ (y : Seat NodeState). y.local.hart.cause ≡ None) (sym z.1) t.0, t.1, z.0, subst (λ (y : Seat NodeState). take_of setup 0 y.local message ≢ None) (sym z.1) t.2)
 
 -- the lines of a message are low
-kind_low : (setup : Setup) (n : ℕ) (flat : Flat) (x : NodeState) (ms : List (Msg Kind)) (m : Msg Kind) → n < 2 ^ 56 → NodeSound setup n flat x ms → ms ≡ m ∷ [] → IsLow m.kind
+kind_low : (setup : Setup) (n : ℕ) (flat : Flat) (x : NodeState) (ms : List (Msg Kind)) (m : Msg Kind) → n < 2 ^ 56 → NodeSound setup n flat x ms → ms ≡ m ∷ [] → IsLowMessage m.kind
 kind_low setup n flat x ms m few s one = at x.request s.going
   where
-    by_kind : (block : Block) (k : Kind) → Asks setup.settings.frames x block k → IsLow k
+    by_kind : (block : Block) (k : Kind) → Asks setup.settings.frames x block k → IsLowMessage k
     by_kind block (ReadEx asked) a = tt
     by_kind block (ExclusiveReply asked line acks) a = let h : line.stores ≤ n = s.low.lines (home_number block) line a.2 in omega arith
 
-    at : (r : Option Block) → Going setup x ms r → IsLow m.kind
+    at : (r : Option Block) → Going setup x ms r → IsLowMessage m.kind
     at None g = let none : ms ≡ [] = g.0 in absurd (cc)
-    at (Some block) w = let there : ms ≡ w.message ∷ [] = w.one in let same : w.message ≡ m = cc in subst (λ (k : Msg Kind). IsLow k.kind) same (by_kind block w.message.kind w.asks)
+    at (Some block) w = let there : ms ≡ w.message ∷ [] = w.one in let same : w.message ≡ m = cc in subst (λ (k : Msg Kind). IsLowMessage k.kind) same (by_kind block w.message.kind w.asks)
 
 -- after few events all is young
-pub young_made : (image : ImageState) (m : MachineState) (cs : List Choice) (es : List (Event Note)) → MadeBy image m cs es → length es < 2 ^ 56 → IsYoungWorld m.world
+pub young_made : (image : ImageState) (m : MachineState) (cs : List Choice) (es : List (Event Note)) → MadeBy image m cs es → length es < 2 ^ 56 → IsYoung m.world
 young_made image m cs es made few =
     let setup : Setup = setup_in image m in
     let n : ℕ = length es in
     let flat : Flat = flat_end (flat_start (start_byte image)) es in
     let s : Sound setup n flat m.world = (made_sound image m cs es made).0 in
     record {
-      seats = λ a x there. subst (λ (y : Seat NodeState). (y.clock < 2 ^ 56) × (y.next < 2 ^ 56) × IsYoung y.local) (sym (seat_zero setup n flat m.world a x s there).1) (
+      seats = λ a x there. subst (λ (y : Seat NodeState). (y.clock < 2 ^ 56) × (y.next < 2 ^ 56) × IsLowNode y.local) (sym (seat_zero setup n flat m.world a x s there).1) (
         let c : s.seat.clock ≤ n = s.young.clock in omega arith,
         let c : s.seat.next ≤ n = s.young.next in omega arith,
         record {

@@ -18,12 +18,12 @@ abbrev pub goes_on : Need → Bool
 goes_on need.Plain = true
 goes_on other = false
 
-unfoldable pub settled_within : ImageState → ℕ → HartState → HartState
-settled_within image zero h = h
-settled_within image (suc more) h = cond (goes_on (need_of image h)) (settled_within image more (finish_of image h 0)) h
+unfoldable pub at_need_within : ImageState → ℕ → HartState → HartState
+at_need_within image zero h = h
+at_need_within image (suc more) h = cond (goes_on (need_of image h)) (at_need_within image more (finish_of image h 0)) h
 
-abbrev pub settled : ImageState → HartState → HartState
-settled image h = settled_within image h.left h
+abbrev pub at_need : ImageState → HartState → HartState
+at_need image h = at_need_within image h.left h
 
 -- all harts and the memory
 pub record FlatState : Type 0 where
@@ -52,7 +52,7 @@ memory_next flat p other = flat
 
 abbrev pub flat_step : ImageState → FlatState → ℕ → Note → FlatState
 flat_step image s p noted = record {
-  harts = with_hart s.harts p (hart_next image (settled image (s.harts p)) (need_of image (settled image (s.harts p))) noted);
+  harts = with_hart s.harts p (hart_next image (at_need image (s.harts p)) (need_of image (at_need image (s.harts p))) noted);
   flat = memory_next s.flat p noted;
 }
 
@@ -61,7 +61,7 @@ flat_step image s p noted = record {
 abbrev pub FlatRunFrom : ImageState → FlatState → List (ℕ × Note) → Type 0
 FlatRunFrom image s [] = Unit {0}
 FlatRunFrom image s (entry ∷ entries) =
-    (entry.0 < image.nodes) × ((s.harts entry.0).cause ≡ None) × MayNote s entry.0 (settled image (s.harts entry.0)) (need_of image (settled image (s.harts entry.0))) entry.1
+    (entry.0 < image.nodes) × ((s.harts entry.0).cause ≡ None) × MayNote s entry.0 (at_need image (s.harts entry.0)) (need_of image (at_need image (s.harts entry.0))) entry.1
     × FlatRunFrom image (flat_step image s entry.0 entry.1) entries
 
 -- all harts at their entry, and memory as the program says

@@ -14,7 +14,7 @@ use Rattle.og_core.specs.declared.msg.Note.{Note}
 use Rattle.og_core.specs.declared.msg.Note.TheVariants as note
 use Rattle.og_core.specs.Node.{NodeState, Setup, rules}
 use Rattle.og_core.specs.Machine.{MachineState, setup_in, MadeBy, IsMade, is_quiet, refusal_of}
-use Rattle.og_core.specs.FlatRun.{FlatState, FlatRun, flat_begin, flat_after, settled, hart_notes}
+use Rattle.og_core.specs.FlatRun.{FlatState, FlatRun, flat_begin, flat_after, at_need, hart_notes}
 use Rattle.og_core.specs.HartRuns.{HartsRun, Answered, flat_end}
 use Rattle.og_core.specs.Simulation.{next_choice}
 use Rattle.og_core.specs.Held.{held}
@@ -60,7 +60,7 @@ FlatRunsNoteNeeds =
     (setup : Setup) (before after : List (ℕ × Note)) (p : ℕ) (noted : Note)
     → FlatRun setup (before ++ (p, noted) ∷ after)
     → let s : FlatState = flat_after setup.image (flat_begin setup) before in
-    (p < setup.image.nodes) × ((s.harts p).cause ≡ None) × IsNeed setup.image s p (settled setup.image (s.harts p)) noted
+    (p < setup.image.nodes) × ((s.harts p).cause ≡ None) × IsNeed setup.image s p (at_need setup.image (s.harts p)) noted
 
 -- what was noted of the harts in a run of the machine is a flat run
 abbrev pub RunsAreFlat : Type 0

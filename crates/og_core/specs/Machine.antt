@@ -18,7 +18,7 @@ use Rattle.rv_hart.specs.Image.{ImageState, IsLoadable}
 use Rattle.rv_hart.specs.Layout.{LayoutState, layout_of, pages_of, below}
 use Rattle.og_core.specs.declared.msg.Kind.{Kind}
 use Rattle.og_core.specs.declared.msg.Note.{Note}
-use Rattle.og_core.specs.Node.{NodeState, Gives, Setup, setup_of, rules, can_act_of, IsYoung, IsLow}
+use Rattle.og_core.specs.Node.{NodeState, Gives, Setup, setup_of, rules, can_act_of, IsLowNode, IsLowMessage}
 use Rattle.og_core.specs.Start.{start_node}
 
 abbrev pub Machines : Type 0
@@ -70,9 +70,9 @@ abbrev pub IsMade : ImageState → MachineState → Type 0
 IsMade image m = (choices : List Choice) × (events : List (Event Note)) × MadeBy image m choices events
 
 -- all clocks, numbers of messages and numbers of stores are low
-pub record IsYoungWorld (w : World NodeState Kind) : Type 0 where
-  pub seats : (a : ℕ) (x : Seat NodeState) → slice_get w.seats a ≡ Some x → (x.clock < 2 ^ 56) × (x.next < 2 ^ 56) × IsYoung x.local
-  pub messages : (i : MsgId) (m : Msg Kind) → find i w.flight ≡ Some m → (m.stamp.clock < 2 ^ 56) × IsLow m.kind
+pub record IsYoung (w : World NodeState Kind) : Type 0 where
+  pub seats : (a : ℕ) (x : Seat NodeState) → slice_get w.seats a ≡ Some x → (x.clock < 2 ^ 56) × (x.next < 2 ^ 56) × IsLowNode x.local
+  pub messages : (i : MsgId) (m : Msg Kind) → find i w.flight ≡ Some m → (m.stamp.clock < 2 ^ 56) × IsLowMessage m.kind
 
 -- ------------------------------------------------------------ one event
 

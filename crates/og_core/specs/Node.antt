@@ -68,7 +68,7 @@ abbrev pub outcome_of : NodeState → Done → Outcome NodeState Kind Note
 outcome_of x done = record { local = x; letters = letters_of done.letter; note = done.note }
 
 -- each line of a node has seen fewer than 2 ^ 63 stores
-pub record IsYoung (x : NodeState) : Type 0 where
+pub record IsLowNode (x : NodeState) : Type 0 where
   pub copies : (k : ℕ) (line : Line) → slice_get x.copies k ≡ Some (Some line) → line.stores < 2 ^ 63
   pub lines : (k : ℕ) (line : Line) → slice_get x.lines k ≡ Some line → line.stores < 2 ^ 63
 
@@ -78,9 +78,9 @@ RunsWhereFilled x (ReadEx block) = Unit {0}
 RunsWhereFilled x (ExclusiveReply block line acks) = x.hart.cause ≡ None
 
 -- a message's line has seen fewer than 2 ^ 63 stores
-abbrev pub IsLow : Kind → Type 0
-IsLow (ReadEx block) = Unit {0}
-IsLow (ExclusiveReply block line acks) = line.stores < 2 ^ 63
+abbrev pub IsLowMessage : Kind → Type 0
+IsLowMessage (ReadEx block) = Unit {0}
+IsLowMessage (ExclusiveReply block line acks) = line.stores < 2 ^ 63
 
 abbrev pub setup_of : ImageState → LayoutState → SettingsState → Setup
 setup_of image layout settings = record { image = image; layout = layout; settings = settings }

@@ -6,8 +6,8 @@ ghost use Rattle.og_runs.specs.World.{world_step, find, placed_all};
 ghost use Rattle.og_runs.specs.declared.Choice.TheVariants.{Act, Take};
 ghost use Rattle.og_base.specs.Settings.{settings_seen};
 ghost use Rattle.rv_hart.specs.Layout.{below, layout_of, pages_of};
-ghost use Rattle.og_core.specs.Node.{letters_of, setup_of, rules, act_of, take_of, IsYoung, IsLow, RunsWhereFilled};
-ghost use Rattle.og_core.specs.Machine.{MachineState, Moves, setup_in, IsMade, IsYoungWorld, refusal_of, is_stopped, is_quiet, start_of, new_seat};
+ghost use Rattle.og_core.specs.Node.{letters_of, setup_of, rules, act_of, take_of, IsLowNode, IsLowMessage, RunsWhereFilled};
+ghost use Rattle.og_core.specs.Machine.{MachineState, Moves, setup_in, IsMade, IsYoung, refusal_of, is_stopped, is_quiet, start_of, new_seat};
 ghost use Rattle.og_core.specs.Simulation.{acts_in, enabled_of, drain_of, next_choice};
 
 use crate::msg::{Event, Kind, Msg};
@@ -44,9 +44,9 @@ impl Model for Machine {
 }
 
 /// Ends an event of an actor: its clock becomes the event's, and its letter a message in flight.
-fn settle(seat: &mut Seat<Node>, flight: &mut Flight<Kind>, stamp: Stamp, done: &Done)
+fn end_event(seat: &mut Seat<Node>, flight: &mut Flight<Kind>, stamp: Stamp, done: &Done)
     requires room { length flight.old.messages < flight.old.room }
-    requires low { seat.old.next < 2 ^ 56 }
+    requires young { seat.old.next < 2 ^ 56 }
     requires new { (k : ℕ) → seat.old.next ≤ k → find (record { sender = stamp.actor; seq = k }) flight.old.messages ≡ None }
     ensures seat { seat.new ≡ record { local = seat.old.local; clock = stamp.clock; next = seat.old.next + length (letters_of done.now.letter) } }
     ensures sent { flight.new.messages ≡ placed_all flight.old.messages (posted stamp.actor stamp.clock seat.old.next (letters_of done.now.letter)) }
@@ -78,7 +78,7 @@ fn act_at(
     actor: ActorId,
 ) -> Event
     requires enabled { act_of (setup_of image.now layout.now (settings_seen settings.now)) seat.old.local ≢ None }
-    requires young { (seat.old.clock < 2 ^ 56) × (seat.old.next < 2 ^ 56) × IsYoung seat.old.local }
+    requires young { (seat.old.clock < 2 ^ 56) × (seat.old.next < 2 ^ 56) × IsLowNode seat.old.local }
     requires room { length flight.old.messages < flight.old.room }
     requires new { (k : ℕ) → seat.old.next ≤ k → find (record { sender = actor; seq = k }) flight.old.messages ≡ None }
     ensures moves { Moves actor None (act_of (setup_of image.now layout.now (settings_seen settings.now)) seat.old.local) seat.old seat.new flight.old.messages flight.new.messages result }
@@ -86,7 +86,7 @@ fn act_at(
 {
     let stamp = act_stamp(seat.clock, actor);
     let done = seat.local.act(image, layout, settings);
-    settle(seat, flight, stamp, &done);
+    end_event(seat, flight, stamp, &done);
     Event {
         choice: Choice::Act(actor),
         stamp,
@@ -105,8 +105,8 @@ fn take_at(
 ) -> Event
     requires row { take_of (setup_of image.now layout.now (settings_seen settings.now)) message.now.to seat.old.local message.now ≢ None }
     requires running { RunsWhereFilled seat.old.local message.now.kind }
-    requires young { (seat.old.clock < 2 ^ 56) × (seat.old.next < 2 ^ 56) × IsYoung seat.old.local }
-    requires low { (message.now.stamp.clock < 2 ^ 56) × IsLow message.now.kind }
+    requires young { (seat.old.clock < 2 ^ 56) × (seat.old.next < 2 ^ 56) × IsLowNode seat.old.local }
+    requires young_message { (message.now.stamp.clock < 2 ^ 56) × IsLowMessage message.now.kind }
     requires room { length flight.old.messages < flight.old.room }
     requires new { (k : ℕ) → seat.old.next ≤ k → find (record { sender = message.now.to; seq = k }) flight.old.messages ≡ None }
     ensures moves { Moves message.now.to (Some message.now) (take_of (setup_of image.now layout.now (settings_seen settings.now)) message.now.to seat.old.local message.now) seat.old seat.new flight.old.messages flight.new.messages result }
@@ -114,7 +114,7 @@ fn take_at(
 {
     let stamp = take_stamp(seat.clock, message.stamp, message.to);
     let done = seat.local.take(image, layout, settings, message.to, message);
-    settle(seat, flight, stamp, &done);
+    end_event(seat, flight, stamp, &done);
     Event {
         choice: Choice::Take(message.to, message.id),
         stamp,
@@ -125,7 +125,7 @@ fn take_at(
 impl Machine {
     fn act(&mut self, image: &Image, actor: ActorId) -> Result<Event, NotEnabled>
         requires made { IsMade image.now self.old }
-        requires young { IsYoungWorld self.old.world }
+        requires young { IsYoung self.old.world }
         ensures made { IfOk result (λ event. world_step (rules (setup_in image.now self.old)) self.old.world (Act actor) ≡ Some (self.new.world, event)) }
         ensures kept { OnOk result (self.new ≡ record self.old { world = self.new.world }) }
         ensures enabled { OnOk result (refusal_of self.old.world (Act actor) ≡ None) }
@@ -149,7 +149,7 @@ impl Machine {
 
     fn take(&mut self, image: &Image, actor: ActorId, id: MsgId) -> Result<Event, NotEnabled>
         requires made { IsMade image.now self.old }
-        requires young { IsYoungWorld self.old.world }
+        requires young { IsYoung self.old.world }
         ensures made { IfOk result (λ event. world_step (rules (setup_in image.now self.old)) self.old.world (Take actor id) ≡ Some (self.new.world, event)) }
         ensures kept { OnOk result (self.new ≡ record self.old { world = self.new.world }) }
         ensures enabled { OnOk result (refusal_of self.old.world (Take actor id) ≡ None) }
@@ -177,7 +177,7 @@ impl Machine {
     /// Makes one event. It takes no memory; after a refusal nothing has changed.
     pub fn step(&mut self, image: &Image, choice: Choice) -> Result<Event, NotEnabled>
         requires made { IsMade image.now self.old }
-        requires young { IsYoungWorld self.old.world }
+        requires young { IsYoung self.old.world }
         ensures made { IfOk result (λ event. world_step (rules (setup_in image.now self.old)) self.old.world choice ≡ Some (self.new.world, event)) }
         ensures kept { OnOk result (self.new ≡ record self.old { world = self.new.world }) }
         ensures enabled { OnOk result (refusal_of self.old.world choice ≡ None) }
@@ -253,7 +253,7 @@ impl Machine {
     pub fn enabled_count(&self, image: &Image) -> u32
         requires made { IsMade image.now self.now }
         ensures count { result ≡ length (enabled_of self.now.world) }
-        ensures few { result ≤ 1 }
+        ensures at_most_one { result ≤ 1 }
     {
         self.acts() + self.flight.len() as u32
     }

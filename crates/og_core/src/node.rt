@@ -4,7 +4,7 @@ ghost use Rattle.std.specs.Prelude.{◌≡◌, ◌≢◌, ℕ, ◌+◌, ◌*◌,
 ghost use Rattle.og_runs.specs.Runs.{Outcome};
 ghost use Rattle.rv_hart.specs.Hart.{need_of};
 ghost use Rattle.og_line.specs.Access.{IsAligned, addr_of};
-ghost use Rattle.og_core.specs.Node.{NodeState, setup_of, act_of, take_of, outcome_of, IsYoung, can_act_of, block_at, block_number, home_number, stop_note, completed, access_note, by_block, by_copy, by_entry, by_fill, IsLow, RunsWhereFilled};
+ghost use Rattle.og_core.specs.Node.{NodeState, setup_of, act_of, take_of, outcome_of, IsLowNode, can_act_of, block_at, block_number, home_number, stop_note, completed, access_note, by_block, by_copy, by_entry, by_fill, IsLowMessage, RunsWhereFilled};
 ghost use Rattle.og_base.specs.Settings.{settings_seen};
 ghost use Rattle.og_core.specs.Start.{start_node, home_lines, home_line_of};
 ghost use Rattle.std.specs.Prelude.{IfOk};
@@ -111,7 +111,7 @@ impl Node {
     /// The node's own next event.
     pub fn act(&mut self, image: &Image, layout: &Layout, settings: &Settings) -> Done
         requires enabled { act_of (setup_of image.now layout.now (settings_seen settings.now)) self.old ≢ None }
-        requires young { IsYoung self.old }
+        requires low { IsLowNode self.old }
         ensures { act_of (setup_of image.now layout.now (settings_seen settings.now)) self.old ≡ Some (outcome_of self.new result) }
     {
         match self.hart.next(image) {
@@ -146,7 +146,7 @@ impl Node {
         requires need { need_of image.now self.old.hart ≡ Need.Access access }
         requires aligned { IsAligned access }
         requires enabled { by_block (setup_of image.now layout.now (settings_seen settings.now)) self.old access (block_at layout.now (addr_of access)) ≢ None }
-        requires young { IsYoung self.old }
+        requires low { IsLowNode self.old }
         ensures { by_block (setup_of image.now layout.now (settings_seen settings.now)) self.old access (block_at layout.now (addr_of access)) ≡ Some (outcome_of self.new result) }
     {
         let block = match block_of(layout, access.addr()) {
@@ -161,7 +161,7 @@ impl Node {
         requires need { need_of image.now self.old.hart ≡ Need.Access access }
         requires aligned { IsAligned access }
         requires inside { number < length self.old.copies }
-        requires young { IsYoung self.old }
+        requires low { IsLowNode self.old }
         ensures { by_copy image.now self.old access number block (slice_get self.old.copies number) ≡ Some (outcome_of self.new result) }
     {
         match self.copies[number] {
@@ -184,7 +184,7 @@ impl Node {
         requires need { need_of image.now self.old.hart ≡ Need.Access access }
         requires aligned { IsAligned access }
         requires inside { number < length self.old.copies }
-        requires young { line.stores < 2 ^ 63 }
+        requires low { line.stores < 2 ^ 63 }
         ensures node { self.new ≡ completed image.now self.old number line access }
         ensures done { result ≡ record { letter = None; note = Some (access_note self.old line access) } }
     {
@@ -208,8 +208,8 @@ impl Node {
     ) -> Done
         requires row { take_of (setup_of image.now layout.now (settings_seen settings.now)) node self.old message.now ≢ None }
         requires running { RunsWhereFilled self.old message.now.kind }
-        requires young { IsYoung self.old }
-        requires low { IsLow message.now.kind }
+        requires low { IsLowNode self.old }
+        requires low_message { IsLowMessage message.now.kind }
         ensures { take_of (setup_of image.now layout.now (settings_seen settings.now)) node self.old message.now ≡ Some (outcome_of self.new result) }
     {
         match message.kind {
@@ -244,7 +244,7 @@ impl Node {
     fn fill(&mut self, image: &Image, number: usize, line: Line) -> Done
         requires row { by_fill image.now self.old number line (slice_get self.old.copies number) (need_of image.now self.old.hart) ≢ None }
         requires running { self.old.hart.cause ≡ None }
-        requires young { line.stores < 2 ^ 63 }
+        requires low { line.stores < 2 ^ 63 }
         ensures { by_fill image.now self.old number line (slice_get self.old.copies number) (need_of image.now self.old.hart) ≡ Some (outcome_of self.new result) }
     {
         let access = match self.hart.next(image) {

@@ -1,6 +1,7 @@
 -- Pages on frames, the mover, and what each node knows of frames. A field is a column: a function of what it is asked
 -- about, so that a row leaves every other column alone by computation. A message that may be in flight stands in the
 -- column of its key, and a column has room for one, so no two messages have one key. L is the type of a line.
+pub use Rattle.og_slots.specs.Columns.{put}
 use Rattle.std.specs.Prelude.{ℕ, Bool, cond, nat_eq}
 
 -- what a frame is for: in its home's free list; the page table's frame of the page; the frame into which the page is
@@ -90,10 +91,6 @@ pub record State (L : Type 0) : Type 0 where
   pub memory : ℕ → ℕ → L  -- of a page and a number: the flat memory
   pub notice : ℕ → Notice  -- of a frame
   pub noticed : ℕ → Bool  -- of a frame: its home sends no further notice
-
--- a column with one value changed
-abbrev pub put : {A : Type 0} → (ℕ → A) → ℕ → A → ℕ → A
-put f x value y = cond (nat_eq y x) value (f y)
 
 abbrev pub put_pair : {A : Type 0} → (ℕ → ℕ → A) → ℕ → ℕ → A → ℕ → ℕ → A
 put_pair f x z value y w = cond (nat_eq y x) (cond (nat_eq w z) value (f y w)) (f y w)

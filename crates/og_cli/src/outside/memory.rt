@@ -1,4 +1,4 @@
-//! Files and a sink in memory, for tests. Both fail at the calls that they are told to fail at.
+//! Files and a sink in memory, for tests. Both fail at the calls that they are to fail at.
 
 ghost use Rattle.std.specs.Prelude.{◌≡◌, ◌≢◌, ℕ, ◌+◌, ◌-◌, ◌^◌, ◌<◌, ◌≤◌, ◌⊎◌, min, List, [], ◌∷◌, ◌++◌, length, take, map, Option, None, Some, Ok, Err, true, OnOk, OnErr, IfOk, MatchOption, vec_len, string_bytes, Contains};
 ghost use Rattle.og_cli.specs.Memory.{entries, one_more};
@@ -9,7 +9,7 @@ use og_base::NoMemory;
 use std::alloc::Global;
 use std::marker::Model;
 
-// A file in memory.
+/// A file in memory.
 #[derive(Drop)]
 struct NamedFile {
     name: String,
@@ -57,7 +57,7 @@ impl MemoryShelf {
     }
 }
 
-// The bytes of the file with this name.
+/// The bytes of the file with this name.
 fn find<'a>(files: &'a [NamedFile], name: &str) -> Option<&'a [u8]>
     ensures { MatchOption result (file_of (entries files.now) name.now ≡ None) (λ bytes. file_of (entries files.now) name.now ≡ Some bytes.now) }
 {
@@ -69,7 +69,7 @@ fn find<'a>(files: &'a [NamedFile], name: &str) -> Option<&'a [u8]>
     None
 }
 
-// A copy of the bytes, if they are at most so many.
+/// A copy of the bytes, if they are at most so many.
 fn copy_of(alloc: Global, bytes: &[u8], limit: u64) -> Result<Vec<u8>, ShelfFault>
     ensures copied { IfOk result (λ copy. copy.items ≡ bytes.now) }
     ensures within { IfOk result (λ copy. vec_len copy ≤ limit) }
@@ -83,11 +83,11 @@ fn copy_of(alloc: Global, bytes: &[u8], limit: u64) -> Result<Vec<u8>, ShelfFaul
     Ok(bytes.to_vec(alloc)?)
 }
 
-// The fault of a call that is told to fail, of a file that is too long or isn't.
-fn told_fault(names: &mut Vec<String>, alloc: Global, name: &str, long: bool) -> ShelfFault
+/// The fault of a call that is to fail, of a file that is too long or isn't.
+fn planned_fault(names: &mut Vec<String>, alloc: Global, name: &str, long: bool) -> ShelfFault
     ensures kept { result ≡ ShelfFault.Failed → AddsName name.now (texts names.old.items) (texts names.new.items) }
     ensures unchanged { result ≢ ShelfFault.Failed → texts names.new.items ≡ texts names.old.items }
-    ensures told { long ≡ true → result ≢ ShelfFault.Memory }
+    ensures planned { long ≡ true → result ≢ ShelfFault.Memory }
     ensures cause { result ≡ ShelfFault.TooLong → long ≡ true }
 {
     match name_fault(names, alloc, name) {
@@ -109,9 +109,9 @@ impl Shelf for MemoryShelf {
         ensures too_long { result ≡ Err ShelfFault.TooLong → HasLongFile (Some self.old.files) name.now limit }
         ensures long { TellsLongFile (Some self.old.files) name.now limit → result ≢ Err ShelfFault.Failed → result ≡ Err ShelfFault.TooLong }
 
-        // It fails at the calls that it was told, and where there is no such file. Without memory to keep
+        // It fails at the calls that it is to fail at, and where there is no such file. Without memory to keep
         // the name it answers that the file is too long, where it is, and else that it wants memory.
-        ensures told { Contains self.old.fails (one_more self.old.calls) → (result ≡ Err ShelfFault.Failed) ⊎ (result ≡ Err ShelfFault.TooLong) ⊎ (result ≡ Err ShelfFault.Memory) }
+        ensures planned { Contains self.old.fails (one_more self.old.calls) → (result ≡ Err ShelfFault.Failed) ⊎ (result ≡ Err ShelfFault.TooLong) ⊎ (result ≡ Err ShelfFault.Memory) }
         ensures missing { file_of self.old.files name.now ≡ None → (result ≡ Err ShelfFault.Failed) ⊎ (result ≡ Err ShelfFault.Memory) }
         ensures cause { result ≡ Err ShelfFault.Failed → Contains self.old.fails (one_more self.old.calls) ⊎ (file_of self.old.files name.now ≡ None) }
         ensures kept { result ≢ Err ShelfFault.Failed → self.new.failed ≡ self.old.failed }
@@ -125,12 +125,12 @@ impl Shelf for MemoryShelf {
         if !fails {
             return copy_of(alloc, bytes, limit);
         }
-        Err(told_fault(&mut self.failed, alloc, name, bytes.len() as u64 > limit))
+        Err(planned_fault(&mut self.failed, alloc, name, bytes.len() as u64 > limit))
     }
 }
 
 /// A sink in memory. Calls of `write` with a piece that isn't empty are numbered from 1; a number that
-/// stands at 2^64 - 1 stays there. If no call is told to fail, its count of faults is always 0.
+/// stands at 2^64 - 1 stays there. If no call is to fail, its count of faults is always 0.
 #[derive(Drop)]
 pub struct MemorySink {
     held: Vec<u8>,
@@ -191,12 +191,12 @@ impl Sink for MemorySink {
     fn write(&mut self, piece: &[u8]) -> Result<usize, SinkFault>
         ensures empty { piece.now ≡ [] → (result ≡ Ok 0) × (self.new ≡ self.old) }
         ensures taken { IfOk result (λ n. n ≡ min (length piece.now) self.old.most) }
-        ensures some { piece.now ≢ [] → IfOk result (λ n. 1 ≤ n) }
+        ensures at_least_one { piece.now ≢ [] → IfOk result (λ n. 1 ≤ n) }
         ensures appends { IfOk result (λ n. self.new.held ≡ self.old.held ++ take n piece.now) }
         ensures nothing { OnErr result (self.new.held ≡ self.old.held) }
 
-        // It fails at the calls that it was told, and at no others.
-        ensures told { piece.now ≢ [] → Contains self.old.fails (one_more self.old.calls) → result ≡ Err SinkFault.Failed }
+        // It fails at the calls that it is to fail at, and at no others.
+        ensures planned { piece.now ≢ [] → Contains self.old.fails (one_more self.old.calls) → result ≡ Err SinkFault.Failed }
         ensures cause { result ≡ Err SinkFault.Failed → Contains self.old.fails (one_more self.old.calls) }
         ensures fault { result ≡ Err SinkFault.Failed → self.new.faults ≡ one_more self.old.faults }
         ensures no_fault { result ≢ Err SinkFault.Failed → self.new.faults ≡ self.old.faults }

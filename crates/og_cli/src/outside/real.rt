@@ -30,7 +30,7 @@ impl<'a, R: Files> FileShelf<'a, R> {
     }
 }
 
-// Reads once, puts what was read at the end of the bytes, and says whether the reader is at its end.
+/// Reads once, puts what was read at the end of the bytes, and says whether the reader is at its end.
 fn read_more<F: Read>(
     reader: &mut F,
     buffer: &mut [u8],
@@ -51,7 +51,7 @@ fn read_more<F: Read>(
     }
 }
 
-// All bytes of the reader, if they are at most so many.
+/// All bytes of the reader, if they are at most so many.
 fn read_within<F: Read>(
     reader: &mut F,
     buffer: &mut [u8],
@@ -78,7 +78,7 @@ fn read_within<F: Read>(
     Err(ShelfFault::Failed)
 }
 
-// The bytes of a file of the system, if they are at most so many.
+/// The bytes of a file of the system, if they are at most so many.
 fn read_file<R: Files>(
     files: &R,
     alloc: Global,
@@ -130,7 +130,7 @@ impl<W: Write + Drop> StreamSink<W> {
     }
 }
 
-// Writes some first bytes of the piece, again where the system was interrupted.
+/// Writes some first bytes of the piece, again where the system was interrupted.
 fn write_some<W: Write>(writer: &mut W, piece: &[u8]) -> io::Result<usize>
     ensures taken { IfOk result (λ n. n ≤ length piece.now) }
     ensures appends { WriteAppends (W.contents writer.old) (W.contents writer.new) result piece.now }
@@ -150,7 +150,7 @@ impl<W: Write + Drop> Sink for StreamSink<W> {
     fn write(&mut self, piece: &[u8]) -> Result<usize, SinkFault>
         ensures empty { piece.now ≡ [] → (result ≡ Ok 0) × (self.new ≡ self.old) }
         ensures taken { IfOk result (λ n. n ≤ length piece.now) }
-        ensures some { piece.now ≢ [] → IfOk result (λ n. 1 ≤ n) }
+        ensures at_least_one { piece.now ≢ [] → IfOk result (λ n. 1 ≤ n) }
         ensures fault { result ≡ Err SinkFault.Failed → Rises self.old.faults self.new.faults }
         ensures no_fault { result ≢ Err SinkFault.Failed → self.new.faults ≡ self.old.faults }
         ensures no_memory { result ≢ Err SinkFault.Memory }

@@ -56,7 +56,7 @@ fn a_text_may_come_in_parts(rt: HostRuntime) -> Result<(), Fail> {
     Ok(())
 }
 
-fn text_of(alloc: Global, text: &str) -> Result<String, AllocError> {
+fn owned(alloc: Global, text: &str) -> Result<String, AllocError> {
     String::from_str(alloc, text)
 }
 
@@ -64,8 +64,8 @@ fn text_of(alloc: Global, text: &str) -> Result<String, AllocError> {
 fn a_shelf_in_memory_gives_what_was_put(rt: HostRuntime) -> Result<(), Fail> {
     let alloc = rt.alloc();
     let mut shelf = MemoryShelf::make(alloc, vec![in alloc; 1]?);
-    shelf.put(text_of(alloc, "old")?, vec![in alloc; 1, 2]?)?;
-    shelf.put(text_of(alloc, "p1")?, vec![in alloc; 3, 4, 5]?)?;
+    shelf.put(owned(alloc, "old")?, vec![in alloc; 1, 2]?)?;
+    shelf.put(owned(alloc, "p1")?, vec![in alloc; 3, 4, 5]?)?;
     assert!(rt; matches!(&shelf.fetch(alloc, "p1", 9), Err(ShelfFault::Failed)));
     assert!(rt; matches!(&shelf.fetch(alloc, "p2", 9), Err(ShelfFault::Failed)));
     assert!(rt; matches!(&shelf.fetch(alloc, "p1", 2), Err(ShelfFault::TooLong)));
@@ -77,24 +77,35 @@ fn a_shelf_in_memory_gives_what_was_put(rt: HostRuntime) -> Result<(), Fail> {
     Ok(())
 }
 
+// A file of more than a mebibyte, names with a blank at their end, and only what failed among the failed.
 #[test]
 fn a_shelf_of_files_reads_whole_files(rt: HostRuntime) -> Result<(), Fail> {
     let alloc = rt.alloc();
-    let long = vec![in alloc; 9u8; 150_000]?;
+    let long = vec![in alloc; 9u8; 1_500_000]?;
+    let short = [1u8, 2, 3];
     fs::write(&rt, "long.bin", long.as_slice())?;
+    fs::write(&rt, "blank ", short.as_slice())?;
     let mut shelf = FileShelf::make(&rt, alloc);
     assert!(rt; matches!(&shelf.fetch(alloc, "missing", 9), Err(ShelfFault::Failed)));
+    assert!(rt; matches!(&shelf.fetch(alloc, "blank", 9), Err(ShelfFault::Failed)));
     assert!(rt;
         matches!(
-            &shelf.fetch(alloc, "long.bin", 149_999),
+            &shelf.fetch(alloc, "long.bin", 1_499_999),
             Err(ShelfFault::TooLong)
         )
     );
+    assert_eq!(rt; shelf.fetch(alloc, "blank ", 9)?.as_slice(), short.as_slice());
     assert_eq!(rt;
-        shelf.fetch(alloc, "long.bin", 150_000)?.as_slice(),
+        shelf.fetch(alloc, "long.bin", 1_500_000)?.as_slice(),
         long.as_slice()
     );
+    let mut failed = Vec::new(alloc);
+    for name in shelf.failed() {
+        failed.push(name.as_str())?;
+    }
+    assert_eq!(rt; failed.as_slice(), ["missing", "blank"].as_slice());
     fs::remove_file(&rt, "long.bin")?;
+    fs::remove_file(&rt, "blank ")?;
     Ok(())
 }
 

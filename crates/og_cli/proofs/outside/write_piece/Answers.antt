@@ -5,8 +5,8 @@ use Rattle.og_cli.proofs.outside.write_piece.Goals as goal
 pub returns-clause-taken : goal.returns-clause-taken
 returns-clause-taken g c = piece_taken c.write.result 65536 c.args.text.now c.first_piece.result.now c.first_piece.ensures c.write.ensures.taken
 
-pub returns-clause-some : goal.returns-clause-some
-returns-clause-some g c = piece_some c.write.result 65536 c.args.text.now c.first_piece.result.now (omega arith) c.first_piece.ensures c.write.ensures.some
+pub returns-clause-at_least_one : goal.returns-clause-at_least_one
+returns-clause-at_least_one g c = piece_some c.write.result 65536 c.args.text.now c.first_piece.result.now (omega arith) c.first_piece.ensures c.write.ensures.at_least_one
 
 pub returns-clause-appends : goal.returns-clause-appends
 returns-clause-appends g c =

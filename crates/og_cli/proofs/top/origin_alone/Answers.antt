@@ -4,7 +4,7 @@ use Rattle.og_cli.specs.declared.words.WordsFault.{WordsFault}
 use Rattle.og_cli.specs.declared.words.WordsFault.TheVariants as words
 use Rattle.og_cli.specs.Outside.{ShelfState, SinkState, texts}
 use Rattle.og_cli.specs.Words.{JobState, job_of, job_seen}
-use Rattle.og_cli.specs.Exit.{IsTold, CommandEnds, EndsUnhindered, told_of, name_of}
+use Rattle.og_cli.specs.Exit.{IsReported, CommandEnds, EndsUnhindered, error_line, name_of}
 use Rattle.og_cli.proofs.Runs.{refused_ends}
 use Rattle.og_cli.proofs.Unhindered.{ends_unhindered}
 use Rattle.og_cli.proofs.top.origin_alone.Goals as goal
@@ -34,7 +34,7 @@ returns-clause-unhindered g c =
     subst (λ (asked : Option JobState). EndsUnhindered asked shelf after old new c.perform-exit.result) (sym c.in-Ok.ensures.job)
     (ends_unhindered (Some (job_seen c.in-Ok.job)) shelf after old new c.perform-exit.result c.perform-exit.ensures.ends)
 
-pub returns-clause-told : goal.returns-clause-told
-returns-clause-told g c =
+pub returns-clause-reported : goal.returns-clause-reported
+returns-clause-reported g c =
     let name : c.as_str.result.now ≡ name_of (job_of (texts c.args.words.now)) = c.as_str.ensures.value ∙ sym (ap (λ (j : Option JobState). name_of j) c.in-Ok.ensures.job) in
-    subst (λ (n : List ℕ). IsTold (told_of n c.perform-exit.result) (g.E.Sink.seen c.args.err.now) (g.E.Sink.seen c.tell.new.err)) name c.tell.ensures
+    subst (λ (n : List ℕ). IsReported (error_line n c.perform-exit.result) (g.E.Sink.seen c.args.err.now) (g.E.Sink.seen c.report.new.err)) name c.report.ensures

@@ -28,8 +28,8 @@ returns-clause-count c =
     let acts : c.acts.result ≡ acts_in c.args.self.now.world.seats = c.acts.ensures in
     omega arith
 
-pub returns-clause-few : goal.returns-clause-few
-returns-clause-few c =
+pub returns-clause-at_most_one : goal.returns-clause-at_most_one
+returns-clause-at_most_one c =
     let shape : Shape c.args.self.now.world = shape_of c.args.image.now c.args.self.now c.requires.made in
     let size : c.len.result ≡ length c.args.self.now.world.flight = c.len.ensures.value ∙ ap (λ (m : MachineState). length m.world.flight) c.self.view_is in
     let count : acts_in c.args.self.now.world.seats + length c.args.self.now.world.flight ≡ length (enabled_of c.args.self.now.world) = count_is c.args.self.now.world shape in

@@ -61,8 +61,8 @@ take_at-requires-clause-young c =
     let there : slice_get c.args.self.now.world.seats c.from-at.result ≡ Some c.index_mut.result.now = seat_there c.args.self.now c.self.inside.seats.items c.from-at.result c.index_mut.result.now seats (omega arith) c.index_mut.ensures.value in
     c.requires.young.seats c.from-at.result c.index_mut.result.now there
 
-pub take_at-requires-clause-low : goal.take_at-requires-clause-low
-take_at-requires-clause-low c =
+pub take_at-requires-clause-young_message : goal.take_at-requires-clause-young_message
+take_at-requires-clause-young_message c =
     let found : find c.args.id c.args.self.now.world.flight ≡ Some c.in-Some.message = subst (λ (ms : List (Msg Kind)). find c.args.id ms ≡ Some c.in-Some.message) (ap (λ (m : MachineState). m.world.flight) c.self.view_is) (found_parts c.args.actor c.args.id c.self.inside.flight.messages c.in-Some.message (sym c.take.ensures.taken ∙ c.in-Some.is)).0 in
     c.requires.young.messages c.args.id c.in-Some.message found
 
