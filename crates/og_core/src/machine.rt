@@ -113,7 +113,9 @@ fn take_at(
     ensures room { flight.new.room ≡ flight.old.room }
 {
     let stamp = take_stamp(seat.clock, message.stamp, message.to);
-    let done = seat.local.take(image, layout, settings, message.to, message);
+    let done = seat
+        .local
+        .take(image, layout, settings, message.to, message);
     end_event(seat, flight, stamp, &done);
     Event {
         choice: Choice::Take(message.to, message.id),

@@ -65,7 +65,8 @@ fn block_of(layout: &Layout, addr: u64) -> Option<Block>
 fn number_of(settings: &Settings, block: Block) -> usize
     ensures { result ≡ block_number settings.now.frames block }
 {
-    (usize::from(block.frame.home) * usize::from(settings.frames) + usize::from(block.frame.index)) * BLOCKS
+    (usize::from(block.frame.home) * usize::from(settings.frames) + usize::from(block.frame.index))
+        * BLOCKS
         + usize::from(block.number)
 }
 

@@ -94,7 +94,10 @@ fn a_shelf_of_files_reads_whole_files(rt: HostRuntime) -> Result<(), Fail> {
             Err(ShelfFault::TooLong)
         )
     );
-    assert_eq!(rt; shelf.fetch(alloc, "blank ", 9)?.as_slice(), short.as_slice());
+    assert_eq!(rt;
+        shelf.fetch(alloc, "blank ", 9)?.as_slice(),
+        short.as_slice()
+    );
     assert_eq!(rt;
         shelf.fetch(alloc, "long.bin", 1_500_000)?.as_slice(),
         long.as_slice()

@@ -26,14 +26,13 @@ loop-made-preserved c =
     (sym c.next_choice.ensures.next ∙ c.in-Some.is) c.in-Ok.ensures.made c.in-Ok.ensures.kept)
 
 pub returns-in_err-push-clause-made : goal.returns-in_err-push-clause-made
-returns-in_err-push-clause-made c =
-    (
-      choices (c.loop-made.events.items ++ c.in-Ok.event ∷ []),
-      c.loop-made.events.items ++ c.in-Ok.event ∷ [],
-      going_made c.args.image.now c.args.machine.now c.step.new.self c.args.most (c.loop-made.made + 1) (c.loop-made.events.items ++ c.in-Ok.event ∷ []) c.requires.start
+returns-in_err-push-clause-made c = (
+  choices (c.loop-made.events.items ++ c.in-Ok.event ∷ []),
+  c.loop-made.events.items ++ c.in-Ok.event ∷ [],
+  going_made c.args.image.now c.args.machine.now c.step.new.self c.args.most (c.loop-made.made + 1) (c.loop-made.events.items ++ c.in-Ok.event ∷ []) c.requires.start
       (going_next c.args.image.now c.args.machine.now c.loop-made.machine c.step.new.self c.args.most c.loop-made.made c.loop-made.events.items c.in-Some.choice c.in-Ok.event c.loop-made-test.true c.requires.start c.loop-made.invariant
       (sym c.next_choice.ensures.next ∙ c.in-Some.is) c.in-Ok.ensures.made c.in-Ok.ensures.kept),
-    )
+)
 
 pub returns-in-None : goal.returns-in-None
 returns-in-None c = record {
