@@ -1,13 +1,16 @@
 -- The words of a state tell the state.
-use Rattle.std.specs.Prelude.{◌≡◌, ℕ, ◌+◌, ◌*◌, ◌/◌, ◌%◌, ◌^◌, ◌<◌, true, false, nat_eq, refl, bit_and, bit_or}
+use Rattle.std.specs.Prelude.{◌≡◌, Bool, ℕ, ◌+◌, ◌*◌, ◌/◌, ◌%◌, ◌^◌, ◌<◌, true, false, nat_eq, cond, refl, bit_and, bit_or}
 use Rattle.std.specs.Ordering.{nat_cmp}
 use Rattle.std.specs.FinSet as set
 use Rattle.std.proofs.Common.{arith, sym, ap, ap₂, ◌∙◌}
 use Rattle.std.proofs.lemmas.Nat.{or_shifted}
+use Rattle.std.proofs.lemmas.Bool.Decides.{nat_tests}
+use Rattle.og_sharers.specs.Sets.{members_of, word_of}
+use Rattle.og_sharers.specs.SetLaws.{members_of-word_of}
 use Rattle.std.proofs.lemmas.Grind.{and_numeral}
 use Rattle.og_directory.specs.declared.entry.State.{State}
 use Rattle.og_directory.specs.declared.entry.State.TheVariants.{Unowned, Shared, Exclusive, BusyShared, BusyExclusive, BusyPoison, Poison}
-use Rattle.og_directory.specs.Words.{head_of, set_of, FieldsFit, state_with, state_of, IsPacked}
+use Rattle.og_directory.specs.Words.{head_of, set_of, FieldsFit, IsKept, state_with, state_of, IsPacked}
 
 -- a head with these fields
 record Fields (head : ℕ) (s : set.FinSet nat_cmp) (number owner requester returned : ℕ) : Type 0 where
@@ -50,6 +53,37 @@ packed-words s head groups fit h g =
 
 pub state_of-packed : (s : State) (head : ℕ) (groups : set.FinSet nat_cmp) → FieldsFit s → head ≡ head_of s → groups ≡ set_of s → state_of head groups ≡ s
 state_of-packed s head groups fit h g = ap₂ (λ x y. state_of x y) h g ∙ state_of-words s fit
+
+-- any other number is that of poison
+pub state_with-other : (n : ℕ) (s : set.FinSet nat_cmp) (q r : ℕ) (t : Bool) → (n ≡ 0 → ⊥) → (n ≡ 1 → ⊥) → (n ≡ 2 → ⊥) → (n ≡ 3 → ⊥) → (n ≡ 4 → ⊥) → (n ≡ 5 → ⊥) → state_with n s q r t ≡ Poison
+state_with-other n s q r t z0 z1 z2 z3 z4 z5 =
+    let a : nat_eq n 0 ≡ false = grind (arith, nat_tests) in
+    let b : nat_eq n 1 ≡ false = grind (arith, nat_tests) in
+    let c : nat_eq n 2 ≡ false = grind (arith, nat_tests) in
+    let d : nat_eq n 3 ≡ false = grind (arith, nat_tests) in
+    let e : nat_eq n 4 ≡ false = grind (arith, nat_tests) in
+    let f : nat_eq n 5 ≡ false = grind (arith, nat_tests) in
+    rw (a, b, c, d, e, f) refl
+
+-- the fields of a head are numbers below 256
+pub FieldsFit-state_of : (head : ℕ) (s : set.FinSet nat_cmp) → FieldsFit (state_of head s)
+unfolding state_of
+FieldsFit-state_of head s = fit _ _ _ (nat_eq (head % 8) 0) (nat_eq (head % 8) 1) (nat_eq (head % 8) 2) (nat_eq (head % 8) 3) (nat_eq (head % 8) 4) (nat_eq (head % 8) 5) (omega arith) (omega arith)
+  where
+    fit : (q r : ℕ) (t : Bool) (a b c d e f : Bool) → q < 256 → r < 256 →
+        FieldsFit (cond a Unowned (cond b (Shared s) (cond c (Exclusive q) (cond d (BusyShared q r) (cond e (BusyExclusive q r t) (cond f (BusyPoison q) Poison))))))
+    fit q r t true b c d e f x y = tt
+    fit q r t false true c d e f x y = tt
+    fit q r t false false true d e f x y = x
+    fit q r t false false false true e f x y = (x, y)
+    fit q r t false false false false true f x y = (x, y)
+    fit q r t false false false false false true x y = x
+    fit q r t false false false false false false x y = tt
+
+-- the state of the words of a state that an entry can hold
+pub read_back : (s : State) (head word : ℕ) → IsKept s → head_of s ≡ head → word_of 64 (set_of s) ≡ word → state_of head (members_of 64 word) ≡ s
+read_back s head word kept h w =
+    state_of-packed s head (members_of 64 word) kept.fields (sym h) (sym (sym (members_of-word_of 64 (set_of s) kept.groups) ∙ ap (λ n. members_of 64 n) w))
 
 -- ------------------------------------------------------------ bits
 

@@ -1,7 +1,10 @@
 //! A directory entry, packed into two words.
 
-ghost use Rattle.std.specs.Prelude.{◌≡◌, ◌<◌, ◌+◌, ◌*◌, ◌^◌, if◌then◌else◌};
-ghost use Rattle.og_directory.specs.Words.{head_of, set_of, FieldsFit};
+ghost use Rattle.std.specs.Prelude.{◌≡◌, ◌<◌, ◌+◌, ◌*◌, ◌^◌, ℕ, if◌then◌else◌, Some, IfSome, is_some};
+ghost use Rattle.og_line.specs.declared.Line.{Line as Memory};
+ghost use Rattle.og_sharers.specs.Sets.{word_of};
+ghost use Rattle.og_directory.specs.declared.entry.State.{State as Seen};
+ghost use Rattle.og_directory.specs.Words.{head_of, set_of, state_of, FieldsFit, IsKept};
 
 use og_base::NodeId;
 use og_sharers::Sharers;
@@ -150,20 +153,50 @@ impl Entry {
     pub fn state(&self) -> State
         ensures { result ≡ self.now }
     {
-        let owner = (self.head >> 8 & 0xff) as u8;
-        let requester = (self.head >> 16 & 0xff) as u8;
-        match self.head & 7 {
-            0 => State::Unowned,
-            1 => State::Shared(self.set),
-            2 => State::Exclusive(owner),
-            3 => State::BusyShared { owner, requester },
-            4 => State::BusyExclusive {
-                owner,
-                requester,
-                returned: self.head >> 24 & 1 == 1,
-            },
-            5 => State::BusyPoison { owner },
-            _ => State::Poison,
+        unpack(self.head, self.set)
+    }
+
+    /// Its two words, head and set.
+    pub fn words(&self) -> (u64, u64)
+        ensures head { result.0 ≡ head_of self.now }
+        ensures set { result.1 ≡ word_of 64 (set_of self.now) }
+        ensures kept { IsKept self.now }
+    {
+        (self.head, self.set.word())
+    }
+
+    /// The entry that has these words, if there is one. So the words of an entry give that entry.
+    pub fn of_words(head: u64, set: u64) -> Option<Entry>
+        ensures words { IfSome result (λ e. (head_of e ≡ head) × (word_of 64 (set_of e) ≡ set)) }
+        ensures read_back { (e : Seen) → IsKept e → head_of e ≡ head → word_of 64 (set_of e) ≡ set → result ≡ Some e }
+    {
+        let entry = Entry::of(unpack(head, Sharers::of_word(set)));
+        let (same_head, same_set) = entry.words();
+        if same_head == head && same_set == set {
+            Some(entry)
+        } else {
+            None
         }
+    }
+}
+
+// The state of a head and a set.
+fn unpack(head: u64, set: Sharers) -> State
+    ensures { result ≡ state_of head set }
+{
+    let owner = (head >> 8 & 0xff) as u8;
+    let requester = (head >> 16 & 0xff) as u8;
+    match head & 7 {
+        0 => State::Unowned,
+        1 => State::Shared(set),
+        2 => State::Exclusive(owner),
+        3 => State::BusyShared { owner, requester },
+        4 => State::BusyExclusive {
+            owner,
+            requester,
+            returned: head >> 24 & 1 == 1,
+        },
+        5 => State::BusyPoison { owner },
+        _ => State::Poison,
     }
 }

@@ -16,6 +16,7 @@
 
 mod entry;
 mod home;
+mod rows;
 
 pub use entry::{Entry, State};
 pub use home::home_step;

@@ -115,7 +115,8 @@ bit_at-shifted word from k = ap (λ n. n % 2) (div-div-eq-div-mul word (2 ^ from
 pub none_above : (w word k : ℕ) → w ≤ k → set.contains (members_of w word) k ≡ false
 none_above w word k out = let no : nat_lt k w ≡ false = grind (arith, nat_tests) in contains-members_of w word k ∙ ap (λ b. b && nat_eq (bit_at word k) 1) no
 
-member_low : (w word k : ℕ) → set.contains (members_of w word) k ≡ true → k < w
+-- a member is below w
+pub member_low : (w word k : ℕ) → set.contains (members_of w word) k ≡ true → k < w
 member_low w word k in_it = at (nat_lt k w) refl (sym (contains-members_of w word k) ∙ in_it)
   where
     at : (b : Bool) → nat_lt k w ≡ b → (b && nat_eq (bit_at word k) 1) ≡ true → k < w

@@ -1,14 +1,14 @@
 -- What words of sets have, for the models of this crate's types and the proofs of its calls.
-use Rattle.std.specs.Prelude.{◌≡◌, ℕ, zero, suc, ◌+◌, ◌*◌, ◌^◌, ◌%◌, ◌<◌, ◌&&◌, ◌||◌, Bool, true, false, nat_eq, nat_lt, cond, refl}
+use Rattle.std.specs.Prelude.{◌≡◌, ℕ, zero, suc, ◌+◌, ◌*◌, ◌-◌, ◌^◌, ◌%◌, ◌<◌, ◌≤◌, ◌&&◌, ◌||◌, Bool, true, false, nat_eq, nat_lt, cond, refl}
 use Rattle.std.specs.Ordering.{nat_cmp}
 use Rattle.std.specs.Int.{bit_at}
 use Rattle.std.specs.FinSet as set
-use Rattle.std.proofs.Common.{arith, sym, ap, subst, ◌∙◌}
+use Rattle.std.proofs.Common.{arith, sym, ap, ap₂, subst, ◌∙◌}
 use Rattle.std.specs.Cmp.{nat_cmp_total, unsigned_tied}
 use Rattle.std.proofs.lemmas.Bool.Decides.{nat_tests}
 use Rattle.std.proofs.lemmas.Nat.{mod-pow-add}
-use Rattle.std.proofs.lemmas.Nat.Bits.{bit_at-lt}
-use Rattle.std.proofs.Math.Nat.{mod-eq_of_lt}
+use Rattle.std.proofs.lemmas.Nat.Bits.{bit_at-lt, bit_at_above, bit_at_cat_low, bit_at_cat_high}
+use Rattle.std.proofs.Math.Nat.{mod-eq_of_lt, pow-suc}
 use Rattle.og_sharers.specs.Sets.{members_of, word_of}
 
 -- one more bit is looked at
@@ -73,3 +73,56 @@ word_below (suc w) word s same = at (nat_eq (bit_at word w) 1) refl (word_below 
 pub word_of-members_of : (w word : ℕ) → word < 2 ^ w → word_of w (members_of w word) ≡ word
 word_of-members_of w word low =
     word_below w word (members_of w word) (λ k lt. contains-members_of w word k ∙ (let inside : nat_lt k w ≡ true = grind (arith, nat_tests) in ap (λ b. b && nat_eq (bit_at word k) 1) inside)) ∙ mod-eq_of_lt low
+
+-- ------------------------------------------------------------ and back
+
+-- the word of a set has w bits
+word_of-low : (w : ℕ) (s : set.FinSet nat_cmp) → word_of w s < 2 ^ w
+unfolding word_of
+word_of-low zero s = omega arith
+word_of-low (suc w) s = at (set.contains s w) (word_of-low w s)
+  where
+    at : (b : Bool) → word_of w s < 2 ^ w → word_of w s + cond b (2 ^ w) 0 < 2 ^ suc w
+    at true low = let twice : 2 ^ suc w ≡ 2 ^ w * 2 = pow-suc 2 w in omega arith
+    at false low = let twice : 2 ^ suc w ≡ 2 ^ w * 2 = pow-suc 2 w in omega arith
+
+-- its bits are the members below w
+bit_at-word_of : (w : ℕ) (s : set.FinSet nat_cmp) (k : ℕ) → k < w → nat_eq (bit_at (word_of w s) k) 1 ≡ set.contains s k
+unfolding word_of
+bit_at-word_of zero s k lt = absurd (let z : k < zero = lt in omega arith)
+bit_at-word_of (suc w) s k lt = at (set.contains s w) refl (nat_eq k w) refl (λ low. bit_at-word_of w s k low) (word_of-low w s)
+  where
+    at : (b : Bool) → set.contains s w ≡ b → (c : Bool) → nat_eq k w ≡ c → (k < w → nat_eq (bit_at (word_of w s) k) 1 ≡ set.contains s k) → word_of w s < 2 ^ w →
+        nat_eq (bit_at (word_of w s + cond b (2 ^ w) 0) k) 1 ≡ set.contains s k
+    at true is true same before low =
+        let e : k ≡ w = grind (arith, nat_tests) in
+        let high : bit_at (1 * 2 ^ w + word_of w s) w ≡ bit_at 1 (w - w) = bit_at_cat_high 1 w (word_of w s) w low (omega arith) in
+        let zero_more : w - w ≡ 0 = omega arith in
+        let one : bit_at 1 (w - w) ≡ 1 = ap (λ j. bit_at 1 j) zero_more in
+        let sum : word_of w s + 2 ^ w ≡ 1 * 2 ^ w + word_of w s = omega arith in
+        let bit : bit_at (word_of w s + 2 ^ w) k ≡ 1 = ap₂ (λ n j. bit_at n j) sum e ∙ high ∙ one in
+        ap (λ n. nat_eq n 1) bit ∙ sym (ap (λ j. set.contains s j) e ∙ is)
+    at true is false other before low =
+        let below : k < w = grind (arith, nat_tests) in
+        let sum : word_of w s + 2 ^ w ≡ 1 * 2 ^ w + word_of w s = omega arith in
+        let bit : bit_at (word_of w s + 2 ^ w) k ≡ bit_at (word_of w s) k = ap (λ n. bit_at n k) sum ∙ bit_at_cat_low 1 w (word_of w s) k below in
+        ap (λ n. nat_eq n 1) bit ∙ before below
+    at false is true same before low =
+        let e : k ≡ w = grind (arith, nat_tests) in
+        let sum : word_of w s + 0 ≡ word_of w s = omega arith in
+        let bit : bit_at (word_of w s + 0) k ≡ 0 = ap₂ (λ n j. bit_at n j) sum e ∙ bit_at_above (word_of w s) w w low (omega arith) in
+        ap (λ n. nat_eq n 1) bit ∙ sym (ap (λ j. set.contains s j) e ∙ is)
+    at false is false other before low =
+        let below : k < w = grind (arith, nat_tests) in
+        let sum : word_of w s + 0 ≡ word_of w s = omega arith in
+        ap (λ n. nat_eq n 1) (ap (λ n. bit_at n k) sum) ∙ before below
+
+-- a set of numbers below w is the set of its word's members
+pub members_of-word_of : (w : ℕ) (s : set.FinSet nat_cmp) → ((k : ℕ) → set.contains s k ≡ true → k < w) → members_of w (word_of w s) ≡ s
+members_of-word_of w s low =
+    set.same_set nat_cmp_total set.nat_cmp-IsAntisymmetric _ _ (λ k. contains-members_of w (word_of w s) k ∙ at k (nat_lt k w) refl (set.contains s k) refl)
+  where
+    at : (k : ℕ) (b : Bool) → nat_lt k w ≡ b → (c : Bool) → set.contains s k ≡ c → (b && nat_eq (bit_at (word_of w s) k) 1) ≡ set.contains s k
+    at k true lt c is = bit_at-word_of w s k (grind (arith, nat_tests))
+    at k false lt true is = let below : k < w = low k is in absurd (let no_lt : w ≤ k = grind (arith, nat_tests) in omega arith)
+    at k false lt false is = sym is

@@ -131,7 +131,8 @@ impl Sharers {
 
     /// The word that has a bit for each group: bit k is set where group k is in.
     pub fn word(&self) -> u64
-        ensures { result ≡ word_of 64 self.now }
+        ensures value { result ≡ word_of 64 self.now }
+        ensures few { (k : ℕ) → set.contains self.now k ≡ true → k < 64 }
     {
         self.bits
     }
