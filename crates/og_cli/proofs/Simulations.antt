@@ -21,8 +21,8 @@ use Rattle.rv_hart.specs.Layout.{below}
 use Rattle.rv_hart.proofs.Pages.{below_length, below_at}
 use Rattle.og_core.specs.Start.{start_node}
 use Rattle.rv_hart.specs.Image.{ImageState}
-use Rattle.og_core.specs.declared.msg.Kind.{Kind}
-use Rattle.og_core.specs.declared.msg.Note.{Note}
+use Rattle.og_msg.specs.declared.Kind.{Kind}
+use Rattle.og_msg.specs.declared.Note.{Note}
 use Rattle.og_core.specs.Node.{NodeState, Setup, rules}
 use Rattle.og_core.specs.Machine.{MachineState, MadeBy, setup_in, start_world, new_seat, is_quiet}
 use Rattle.og_core.specs.Simulation.{drawn, next_choice, with_choice, with_event}

@@ -5,7 +5,7 @@ use Rattle.og_runs.specs.declared.Event.{Event}
 use Rattle.rv_hart.specs.Image.{ImageState}
 use Rattle.rv_hart.specs.Layout.{pages_of}
 use Rattle.rv_hart.specs.Raw.{is_out, raw_elf}
-use Rattle.og_core.specs.declared.msg.Note.{Note}
+use Rattle.og_msg.specs.declared.Note.{Note}
 use Rattle.og_core.specs.Machine.{start_of}
 use Rattle.og_cli.specs.declared.exit.Exit.{Exit}
 use Rattle.og_cli.specs.declared.exit.Exit.TheVariants as exit

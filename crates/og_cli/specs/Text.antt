@@ -22,8 +22,8 @@ use Rattle.og_runs.specs.declared.Choice.{Choice}
 use Rattle.og_runs.specs.declared.Choice.TheVariants.{Act, Take}
 use Rattle.og_runs.specs.declared.Stamp.{Stamp}
 use Rattle.og_runs.specs.declared.Event.{Event}
-use Rattle.og_core.specs.declared.msg.Note.{Note}
-use Rattle.og_core.specs.declared.msg.Note.TheVariants.{Access as Accessed, Emit, Exit, Trap, Spent, Begin, No, Moved, Freed}
+use Rattle.og_msg.specs.declared.Note.{Note}
+use Rattle.og_msg.specs.declared.Note.TheVariants.{Access as Accessed, Emit, Exit, Trap, Spent, Begin, No, Moved, Freed}
 
 -- ------------------------------------------------------------------------------ words
 

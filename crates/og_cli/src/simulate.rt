@@ -7,7 +7,7 @@ ghost use Rattle.og_cli.specs.Simulate.{IsSimulated, IsAdvanced, LeadsTo};
 
 use og_base::NoMemory;
 use og_core::machine::Machine;
-use og_core::msg::Event;
+use og_msg::Event;
 use og_runs::sort_events;
 use rv_hart::image::Image;
 use std::alloc::Global;

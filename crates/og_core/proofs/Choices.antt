@@ -18,7 +18,7 @@ use Rattle.og_runs.specs.declared.MsgId.{MsgId}
 use Rattle.og_runs.specs.World.{World, find, without}
 use Rattle.og_core.proofs.Worlds.{left_none}
 use Rattle.rv_hart.specs.Image.{ImageState, start_byte}
-use Rattle.og_core.specs.declared.msg.Kind.{Kind}
+use Rattle.og_msg.specs.declared.Kind.{Kind}
 use Rattle.og_core.specs.Node.{NodeState, can_act_of}
 use Rattle.og_core.specs.HartRuns.{flat_end}
 use Rattle.og_core.specs.Machine.{MachineState, IsMade, setup_in, is_stopped, is_quiet, refusal_of}

@@ -9,8 +9,8 @@ use Rattle.rv_hart.specs.declared.hart.Need.TheVariants as need
 use Rattle.rv_hart.specs.Hart.{HartState, need_of, finish_of}
 use Rattle.rv_hart.specs.Image.{ImageState}
 use Rattle.rv_hart.proofs.HartFacts.{finish_keeps, finish_left}
-use Rattle.og_core.specs.declared.msg.Note.{Note}
-use Rattle.og_core.specs.declared.msg.Note.TheVariants as note
+use Rattle.og_msg.specs.declared.Note.{Note}
+use Rattle.og_msg.specs.declared.Note.TheVariants as note
 use Rattle.og_core.specs.FlatRun.{goes_on, at_need_within, at_need, FlatState, with_hart, MayNote, hart_next, memory_next, flat_step, FlatRunFrom, hart_notes, with_note, of_hart}
 use Rattle.og_core.specs.HartRuns.{HartMove, HartsRun, IsNotedInside, Stops, Answered, AnswersFlat, flat_noted}
 

@@ -20,12 +20,12 @@ use Rattle.rv_hart.specs.declared.hart.Need.{Need}
 use Rattle.rv_hart.specs.declared.hart.Need.TheVariants as need
 use Rattle.rv_hart.specs.Image.{ImageState}
 use Rattle.rv_hart.specs.Hart.{HartState, need_of, finish_of, halt_of}
-use Rattle.og_core.specs.declared.directory.Entry.{Entry}
-use Rattle.og_core.specs.declared.directory.Entry.TheVariants.{Unowned, Exclusive}
-use Rattle.og_core.specs.declared.msg.Kind.{Kind}
-use Rattle.og_core.specs.declared.msg.Kind.TheVariants.{ReadEx, ExclusiveReply}
-use Rattle.og_core.specs.declared.msg.Note.{Note}
-use Rattle.og_core.specs.declared.msg.Note.TheVariants as note
+use Rattle.og_directory.specs.declared.entry.State.{State}
+use Rattle.og_directory.specs.declared.entry.State.TheVariants.{Unowned, Exclusive}
+use Rattle.og_msg.specs.declared.Kind.{Kind}
+use Rattle.og_msg.specs.declared.Kind.TheVariants.{ReadEx, ExclusiveReply}
+use Rattle.og_msg.specs.declared.Note.{Note}
+use Rattle.og_msg.specs.declared.Note.TheVariants as note
 use Rattle.og_core.specs.Node.{NodeState, Setup, act_of, by_state, by_need, by_block, by_copy, take_of, completed, access_note, stop_note, same_block, take_by, by_request, by_fill, by_entry, block_at, block_number, home_number}
 use Rattle.og_runs.proofs.Shown.{slice_get_some}
 use Rattle.og_core.specs.HartRuns.{flat_noted, AnswersFlat, HartMove}
@@ -72,7 +72,7 @@ home_held x j line is home = ap (λ (c : Option (Option Line)). held_by c (slice
 answer_flat : (flat : Flat) (x : NodeState) (line : Line) (access : Access) → line ≡ flat.memory (block_of access) → x.reserved ≡ flat.reserved 0 → answer_of line x.reserved access ≡ flat_answer flat 0 access
 answer_flat flat x line access same kept = ap (λ (l : Line). answer_of l x.reserved access) same ∙ ap (λ (r : Option Reservation). answer_of (flat.memory (block_of access)) r access) kept
 
-put_other : (xs : List Entry) (b j : ℕ) (e : Entry) → j ≢ b → slice_get xs j ≡ Some Unowned → slice_get (slice_set xs b e) j ≡ Some Unowned
+put_other : (xs : List State) (b j : ℕ) (e : State) → j ≢ b → slice_get xs j ≡ Some Unowned → slice_get (slice_set xs b e) j ≡ Some Unowned
 put_other xs b j e ne was = grind (arith, nat_tests, common_steps, gets)
 
 module _ (setup : Setup) (good : IsSetup setup) (n : ℕ) (flat : Flat) (x : NodeState) (clock next : ℕ) where
@@ -298,6 +298,7 @@ taken setup good n flat x ms message clock next s one = at x.request refl s.goin
         let kind : message.kind ≡ ExclusiveReply block line acks = subst (λ (c : Block). message.kind ≡ ExclusiveReply c line acks) a.0 is in
         let kind' : message.kind ≡ ExclusiveReply block line 0 = subst (λ (c : ℕ). message.kind ≡ ExclusiveReply block line c) a.1 kind in
         granted setup good n flat x ms message clock next block line s asked w to kind' a.2 a.3
+    by_kind block other asked w from to is a = absurd a
 
     at : (r : Option Block) → x.request ≡ r → Going setup x ms r → Taken setup n flat x message clock next
     at None e g = let none : ms ≡ [] = g.0 in absurd (cc)

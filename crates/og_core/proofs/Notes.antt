@@ -9,8 +9,8 @@ use Rattle.rv_hart.specs.Hart.{HartState, need_of}
 use Rattle.rv_hart.specs.Image.{ImageState}
 use Rattle.og_flat.specs.Flat.{flat_answer}
 use Rattle.og_line.specs.declared.Access.{Access}
-use Rattle.og_core.specs.declared.msg.Note.{Note}
-use Rattle.og_core.specs.declared.msg.Note.TheVariants as note
+use Rattle.og_msg.specs.declared.Note.{Note}
+use Rattle.og_msg.specs.declared.Note.TheVariants as note
 use Rattle.og_core.specs.Node.{stop_note}
 use Rattle.og_core.specs.FlatRun.{FlatState, MayNote, FlatRunFrom, flat_step, flat_after, at_need, of_hart, with_note, hart_notes}
 use Rattle.og_core.specs.Laws.{IsHartNote, IsNeed}

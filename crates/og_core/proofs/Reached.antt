@@ -21,13 +21,13 @@ use Rattle.rv_hart.specs.Hart.{HartState, start_of, need_of}
 use Rattle.rv_hart.specs.Layout.{frame_at}
 use Rattle.rv_hart.proofs.HartFacts.{need_mapped}
 use Rattle.rv_hart.proofs.Placed.{placed_page}
-use Rattle.og_core.specs.declared.msg.Kind.TheVariants.{ReadEx, ExclusiveReply}
+use Rattle.og_msg.specs.declared.Kind.TheVariants.{ReadEx, ExclusiveReply}
 use Rattle.og_core.proofs.Blocks.{Place, place_of, numbers}
 use Rattle.rv_hart.specs.Image.{ImageState, start_byte}
 use Rattle.rv_hart.specs.Layout.{LayoutState, pages_of}
 use Rattle.rv_hart.proofs.Pages.{pages_rise}
-use Rattle.og_core.specs.declared.msg.Kind.{Kind}
-use Rattle.og_core.specs.declared.msg.Note.{Note}
+use Rattle.og_msg.specs.declared.Kind.{Kind}
+use Rattle.og_msg.specs.declared.Note.{Note}
 use Rattle.rv_hart.specs.Image.{is_data_of}
 use Rattle.og_core.specs.Node.{NodeState, Setup, rules, act_of, take_of, can_act_of, can_act_by, by_state, by_need, by_block, by_copy, block_at, block_number, home_number, IsLowNode, IsLowMessage}
 use Rattle.og_core.specs.Start.{stack_end}
@@ -180,6 +180,7 @@ kind_low setup n flat x ms m few s one = at x.request s.going
     by_kind : (block : Block) (k : Kind) → Asks setup.settings.frames x block k → IsLowMessage k
     by_kind block (ReadEx asked) a = tt
     by_kind block (ExclusiveReply asked line acks) a = let h : line.stores ≤ n = s.low.lines (home_number block) line a.2 in omega arith
+    by_kind block other a = absurd a
 
     at : (r : Option Block) → Going setup x ms r → IsLowMessage m.kind
     at None g = let none : ms ≡ [] = g.0 in absurd (cc)

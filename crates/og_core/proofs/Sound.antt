@@ -11,9 +11,9 @@ use Rattle.og_runs.specs.declared.Seat.{Seat}
 use Rattle.og_runs.specs.World.{World}
 use Rattle.rv_hart.specs.declared.hart.Need.TheVariants as need
 use Rattle.rv_hart.specs.Hart.{need_of}
-use Rattle.og_core.specs.declared.directory.Entry.TheVariants.{Unowned}
-use Rattle.og_core.specs.declared.msg.Kind.{Kind}
-use Rattle.og_core.specs.declared.msg.Kind.TheVariants.{ReadEx, ExclusiveReply}
+use Rattle.og_directory.specs.declared.entry.State.TheVariants.{Unowned}
+use Rattle.og_msg.specs.declared.Kind.{Kind}
+use Rattle.og_msg.specs.declared.Kind.TheVariants.{ReadEx, ExclusiveReply}
 use Rattle.og_core.specs.Node.{NodeState, Setup, block_at, block_number, home_number}
 use Rattle.og_core.specs.Held.{held}
 
@@ -33,10 +33,6 @@ pub record Low (n : ℕ) (x : NodeState) : Type 0 where
   pub copies : (j : ℕ) (line : Line) → slice_get x.copies j ≡ Some (Some line) → line.stores ≤ n
   pub lines : (j : ℕ) (line : Line) → slice_get x.lines j ≡ Some line → line.stores ≤ n
 
-abbrev pub IsLowBy : ℕ → Kind → Type 0
-IsLowBy n (ReadEx block) = Unit {0}
-IsLowBy n (ExclusiveReply block line acks) = line.stores ≤ n
-
 -- a block without a copy is unowned, but for one that was granted
 abbrev pub Free : ℕ → NodeState → (ℕ → Bool) → Type 0
 Free frames x granted = (j : ℕ) → j < frames * 32 → slice_get x.copies j ≡ Some None → granted j ≡ false → slice_get x.entries j ≡ Some Unowned
@@ -45,6 +41,7 @@ Free frames x granted = (j : ℕ) → j < frames * 32 → slice_get x.copies j �
 abbrev pub Asks : ℕ → NodeState → Block → Kind → Type 0
 Asks frames x block (ReadEx asked) = (asked ≡ block) × Free frames x (λ j. false)
 Asks frames x block (ExclusiveReply asked line acks) = (asked ≡ block) × (acks ≡ 0) × (slice_get x.lines (home_number block) ≡ Some line) × Free frames x (λ j. nat_eq j (block_number frames block))
+Asks frames x block other = ⊥
 
 -- the hart needs an access to the block, of which the node has no copy
 pub record Waits (setup : Setup) (x : NodeState) (ms : List (Msg Kind)) (block : Block) : Type 0 where

@@ -8,7 +8,7 @@ use Rattle.og_flat.specs.Flat.{flat_start, start_line}
 use Rattle.rv_hart.specs.Image.{ImageState, start_byte}
 use Rattle.rv_hart.specs.Layout.{below}
 use Rattle.rv_hart.proofs.Pages.{below_length, below_at}
-use Rattle.og_core.specs.declared.directory.Entry.TheVariants.{Unowned}
+use Rattle.og_directory.specs.declared.entry.State.TheVariants.{Unowned}
 use Rattle.og_core.specs.Node.{Setup}
 use Rattle.og_core.specs.Start.{home_lines, home_line_of, placed_line}
 use Rattle.og_core.specs.Machine.{start_world, new_seat}

@@ -13,8 +13,8 @@ use Rattle.og_runs.specs.declared.Seat.{Seat}
 use Rattle.og_runs.specs.Runs.{Outcome, posted, clock_after, event_of, same_id}
 use Rattle.og_runs.specs.World.{World, find, without, placed, placed_all, precedes, world_step, world_move, world_take, world_move_with, world_after, seat_after, flight_after}
 use Rattle.og_base.specs.declared.Block.{Block}
-use Rattle.og_core.specs.declared.msg.Kind.{Kind}
-use Rattle.og_core.specs.declared.msg.Note.{Note}
+use Rattle.og_msg.specs.declared.Kind.{Kind}
+use Rattle.og_msg.specs.declared.Note.{Note}
 use Rattle.og_core.specs.Node.{NodeState, Setup, rules, act_of, take_of}
 use Rattle.og_core.proofs.Sound.{NodeSound, SeatLow, Sound, Clocks, Going}
 use Rattle.og_core.proofs.Kept.{IsSetup, Kept, flat_after, Answers, act_kept, act_moves, take_kept}

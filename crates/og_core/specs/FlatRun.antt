@@ -8,8 +8,8 @@ use Rattle.rv_hart.specs.declared.hart.Need.{Need}
 use Rattle.rv_hart.specs.declared.hart.Need.TheVariants as need
 use Rattle.rv_hart.specs.Hart.{HartState, start_of, need_of, finish_of, halt_of}
 use Rattle.rv_hart.specs.Image.{ImageState, start_byte}
-use Rattle.og_core.specs.declared.msg.Note.{Note}
-use Rattle.og_core.specs.declared.msg.Note.TheVariants as note
+use Rattle.og_msg.specs.declared.Note.{Note}
+use Rattle.og_msg.specs.declared.Note.TheVariants as note
 use Rattle.og_core.specs.Node.{Setup, stop_note}
 use Rattle.og_core.specs.Start.{stack_end}
 

@@ -10,8 +10,8 @@ use Rattle.og_runs.specs.World.{world_step}
 use Rattle.rv_hart.specs.declared.hart.Need.TheVariants as need
 use Rattle.rv_hart.specs.Hart.{HartState, need_of}
 use Rattle.rv_hart.specs.Image.{ImageState, start_byte}
-use Rattle.og_core.specs.declared.msg.Note.{Note}
-use Rattle.og_core.specs.declared.msg.Note.TheVariants as note
+use Rattle.og_msg.specs.declared.Note.{Note}
+use Rattle.og_msg.specs.declared.Note.TheVariants as note
 use Rattle.og_core.specs.Node.{NodeState, Setup, rules}
 use Rattle.og_core.specs.Machine.{MachineState, setup_in, MadeBy, IsMade, is_quiet, refusal_of}
 use Rattle.og_core.specs.FlatRun.{FlatState, FlatRun, flat_begin, flat_after, at_need, hart_notes}

@@ -16,8 +16,8 @@ use Rattle.og_runs.specs.Runs.{Outcome, posted, clock_after, event_of}
 use Rattle.og_runs.specs.World.{World, WorldRun, find, seat_after, placed_all}
 use Rattle.rv_hart.specs.Image.{ImageState, IsLoadable}
 use Rattle.rv_hart.specs.Layout.{LayoutState, layout_of, pages_of, below}
-use Rattle.og_core.specs.declared.msg.Kind.{Kind}
-use Rattle.og_core.specs.declared.msg.Note.{Note}
+use Rattle.og_msg.specs.declared.Kind.{Kind}
+use Rattle.og_msg.specs.declared.Note.{Note}
 use Rattle.og_core.specs.Node.{NodeState, Gives, Setup, setup_of, rules, can_act_of, IsLowNode, IsLowMessage}
 use Rattle.og_core.specs.Start.{start_node}
 

@@ -20,12 +20,12 @@ use Rattle.rv_hart.specs.declared.hart.Need.TheVariants as need
 use Rattle.rv_hart.specs.Hart.{HartState, need_of, finish_of, halt_of}
 use Rattle.rv_hart.specs.Image.{ImageState}
 use Rattle.rv_hart.specs.Layout.{LayoutState, first_frame}
-use Rattle.og_core.specs.declared.directory.Entry.{Entry}
-use Rattle.og_core.specs.declared.directory.Entry.TheVariants.{Unowned, Exclusive}
-use Rattle.og_core.specs.declared.msg.Kind.{Kind}
-use Rattle.og_core.specs.declared.msg.Kind.TheVariants.{ReadEx, ExclusiveReply}
-use Rattle.og_core.specs.declared.msg.Note.{Note}
-use Rattle.og_core.specs.declared.msg.Note.TheVariants as note
+use Rattle.og_directory.specs.declared.entry.State.{State}
+use Rattle.og_directory.specs.declared.entry.State.TheVariants.{Unowned, Exclusive}
+use Rattle.og_msg.specs.declared.Kind.{Kind}
+use Rattle.og_msg.specs.declared.Kind.TheVariants.{ReadEx, ExclusiveReply}
+use Rattle.og_msg.specs.declared.Note.{Note}
+use Rattle.og_msg.specs.declared.Note.TheVariants as note
 use Rattle.og_core.specs.declared.node.Done.{Done}
 
 -- what stays the same over a run: the program, where its pages stand, and the settings
@@ -41,7 +41,7 @@ pub record NodeState : Type 0 where
   pub reserved : Option Reservation
   pub copies : List (Option Line)
   pub request : Option Block
-  pub entries : List Entry
+  pub entries : List State
   pub lines : List Line
 
 -- the number of a block among all blocks of the machine
@@ -76,11 +76,13 @@ pub record IsLowNode (x : NodeState) : Type 0 where
 abbrev pub RunsWhereFilled : NodeState → Kind → Type 0
 RunsWhereFilled x (ReadEx block) = Unit {0}
 RunsWhereFilled x (ExclusiveReply block line acks) = x.hart.cause ≡ None
+RunsWhereFilled x other = Unit {0}
 
 -- a message's line has seen fewer than 2 ^ 63 stores
 abbrev pub IsLowMessage : Kind → Type 0
 IsLowMessage (ReadEx block) = Unit {0}
 IsLowMessage (ExclusiveReply block line acks) = line.stores < 2 ^ 63
+IsLowMessage other = Unit {0}
 
 abbrev pub setup_of : ImageState → LayoutState → SettingsState → Setup
 setup_of image layout settings = record { image = image; layout = layout; settings = settings }
@@ -156,7 +158,7 @@ act_of setup x = by_state setup x x.hart.cause x.request
 -- ------------------------------------------------------------ the take
 
 -- the home's table: a read-exclusive of an unowned block is granted to its sender
-abbrev pub by_entry : NodeState → Block → ℕ → ℕ → Option Entry → Option Line → Gives
+abbrev pub by_entry : NodeState → Block → ℕ → ℕ → Option State → Option Line → Gives
 by_entry x block at sender (Some Unowned) (Some line) = Some (record {
   local = record x { entries = slice_set x.entries at (Exclusive sender) };
   letters = record { to = sender; kind = ExclusiveReply block line 0 } ∷ [];
@@ -183,6 +185,7 @@ by_request setup x block line acks (Some asked) = cond (same_block asked block &
 abbrev pub take_by : Setup → ℕ → NodeState → ℕ → Kind → Gives
 take_by setup node x sender (ReadEx block) = cond (nat_eq block.frame.home node) (by_entry x block (home_number block) sender (slice_get x.entries (home_number block)) (slice_get x.lines (home_number block))) None
 take_by setup node x sender (ExclusiveReply block line acks) = by_request setup x block line acks x.request
+take_by setup node x sender other = None
 
 abbrev pub take_of : Setup → ℕ → NodeState → Msg Kind → Gives
 take_of setup node x message = take_by setup node x message.id.sender message.kind

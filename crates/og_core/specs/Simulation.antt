@@ -10,8 +10,8 @@ use Rattle.og_runs.specs.declared.Event.{Event}
 use Rattle.og_runs.specs.declared.Msg.{Msg}
 use Rattle.og_runs.specs.declared.Seat.{Seat}
 use Rattle.og_runs.specs.World.{World, world_step}
-use Rattle.og_core.specs.declared.msg.Kind.{Kind}
-use Rattle.og_core.specs.declared.msg.Note.{Note}
+use Rattle.og_msg.specs.declared.Kind.{Kind}
+use Rattle.og_msg.specs.declared.Note.{Note}
 use Rattle.og_core.specs.Node.{NodeState, Setup, rules, can_act_of}
 use Rattle.og_core.specs.Machine.{is_stopped}
 

@@ -7,7 +7,7 @@ use Rattle.og_flat.specs.Flat.{start_line}
 use Rattle.rv_hart.specs.Hart.{start_of}
 use Rattle.rv_hart.specs.Image.{ImageState, start_byte, stack_page}
 use Rattle.rv_hart.specs.Layout.{LayoutState, below}
-use Rattle.og_core.specs.declared.directory.Entry.TheVariants.{Unowned}
+use Rattle.og_directory.specs.declared.entry.State.TheVariants.{Unowned}
 use Rattle.og_core.specs.Node.{NodeState, Setup}
 
 -- a block of a placed page has the program's bytes; a block of a free frame is zero

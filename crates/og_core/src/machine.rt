@@ -10,12 +10,12 @@ ghost use Rattle.og_core.specs.Node.{letters_of, setup_of, rules, act_of, take_o
 ghost use Rattle.og_core.specs.Machine.{MachineState, Moves, setup_in, IsMade, IsYoung, refusal_of, is_stopped, is_quiet, start_of, new_seat};
 ghost use Rattle.og_core.specs.Simulation.{acts_in, enabled_of, drain_of, next_choice};
 
-use crate::msg::{Event, Kind, Msg};
 use crate::node::{Done, Node};
 use og_base::{
     ActorId, Choice, MsgId, NoMemory, NotEnabled, Settings, Stamp, act_stamp, room, take_stamp,
 };
 use og_flight::Flight;
+use og_msg::{Event, Kind, Msg};
 use og_runs::Seat;
 use rv_hart::image::Image;
 use rv_hart::layout::{Layout, LayoutFault};

@@ -9,11 +9,11 @@ ghost use Rattle.og_base.specs.Settings.{settings_seen};
 ghost use Rattle.og_core.specs.Start.{start_node, home_lines, home_line_of};
 ghost use Rattle.std.specs.Prelude.{IfOk};
 
-use crate::directory::Entry;
-use crate::msg::{Kind, Letter, Msg, Note};
 use og_base::{Block, Cause, NoMemory, NodeId, NotEnabled, Settings, VPage};
+use og_directory::{Entry, State};
 use og_flat::machine::start_line;
 use og_line::{Access, Line, Reservation};
+use og_msg::{Kind, Letter, Msg, Note};
 use rv_hart::hart::{Hart, Need};
 use rv_hart::image::Image;
 use rv_hart::layout::Layout;
@@ -218,6 +218,7 @@ impl Node {
             Kind::ExclusiveReply { block, line, .. } => {
                 self.fill(image, number_of(settings, block), line)
             }
+            _ => unreachable!(),
         }
     }
 
@@ -227,7 +228,7 @@ impl Node {
         ensures { by_entry self.old block at sender (slice_get self.old.entries at) (slice_get self.old.lines at) ≡ Some (outcome_of self.new result) }
     {
         let line = self.lines[at];
-        self.entries[at] = Entry::Exclusive(sender);
+        self.entries[at] = Entry::of(State::Exclusive(sender));
         Done {
             letter: Some(Letter {
                 to: sender,
@@ -281,7 +282,7 @@ impl Node {
             reserved: None,
             copies: vec![in alloc; None; usize::from(settings.nodes) * blocks]?,
             request: None,
-            entries: vec![in alloc; Entry::Unowned; blocks]?,
+            entries: vec![in alloc; Entry::unowned(); blocks]?,
             lines: home_lines(alloc, node, image, layout, settings)?,
         })
     }

@@ -6,7 +6,7 @@ use Rattle.og_runs.specs.declared.Choice.TheVariants.{Act}
 use Rattle.og_runs.specs.declared.Msg.{Msg}
 use Rattle.og_runs.specs.World.{world_step, find}
 use Rattle.og_runs.specs.declared.Seat.{Seat}
-use Rattle.og_core.specs.declared.msg.Kind.{Kind}
+use Rattle.og_msg.specs.declared.Kind.{Kind}
 use Rattle.og_core.specs.Node.{NodeState, can_act_of, rules}
 use Rattle.og_core.specs.Machine.{MachineState, setup_in, act_refusal, refusal_by}
 use Rattle.og_core.proofs.Choices.{shape_of, act_alone}

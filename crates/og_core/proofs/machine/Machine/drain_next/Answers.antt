@@ -1,7 +1,7 @@
 use Rattle.std.proofs.Common.{ap, sym, ◌≡◌, ◌∙◌, None, List}
 use Rattle.og_runs.specs.declared.Msg.{Msg}
 use Rattle.og_flight.specs.Flight.{first_sent}
-use Rattle.og_core.specs.declared.msg.Kind.{Kind}
+use Rattle.og_msg.specs.declared.Kind.{Kind}
 use Rattle.og_core.specs.Machine.{MachineState}
 use Rattle.og_core.proofs.Choices.{drain_none}
 use Rattle.og_core.proofs.machine.Machine.drain_next.Goals as goal

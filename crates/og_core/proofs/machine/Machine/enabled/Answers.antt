@@ -1,7 +1,7 @@
 use Rattle.std.proofs.Common.{◌≡◌, ◌+◌, ◌-◌, ◌≤◌, ◌<◌, ℕ, List, length, Some, arith, ap, subst, ◌∙◌}
 use Rattle.std.specs.Prelude.{slice_get}
 use Rattle.og_runs.specs.declared.Msg.{Msg}
-use Rattle.og_core.specs.declared.msg.Kind.{Kind}
+use Rattle.og_msg.specs.declared.Kind.{Kind}
 use Rattle.og_core.specs.Machine.{MachineState}
 use Rattle.og_core.specs.Simulation.{acts_in, enabled_of}
 use Rattle.og_core.proofs.Choices.{Shape, shape_of, count_is, take_at_is}

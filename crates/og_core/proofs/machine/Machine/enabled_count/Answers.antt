@@ -1,6 +1,6 @@
 use Rattle.std.proofs.Common.{◌≡◌, ◌+◌, ◌≤◌, List, length, arith, ap, ◌∙◌}
 use Rattle.og_runs.specs.declared.Msg.{Msg}
-use Rattle.og_core.specs.declared.msg.Kind.{Kind}
+use Rattle.og_msg.specs.declared.Kind.{Kind}
 use Rattle.og_core.specs.Machine.{MachineState}
 use Rattle.og_core.specs.Simulation.{acts_in, enabled_of}
 use Rattle.og_core.proofs.Choices.{Shape, shape_of, count_is, few_flight, one_enabled}

@@ -9,8 +9,8 @@ use Rattle.og_runs.specs.World.{world_step, find, without, flight_after}
 use Rattle.og_runs.specs.declared.Msg.{Msg}
 use Rattle.og_runs.specs.declared.MsgId.{MsgId}
 use Rattle.og_runs.specs.declared.Seat.{Seat}
-use Rattle.og_core.specs.declared.msg.Kind.{Kind}
-use Rattle.og_core.specs.declared.msg.Kind.TheVariants.{ReadEx, ExclusiveReply}
+use Rattle.og_msg.specs.declared.Kind.{Kind}
+use Rattle.og_msg.specs.declared.Kind.TheVariants.{ReadEx, ExclusiveReply}
 use Rattle.og_core.specs.Node.{NodeState, rules, RunsWhereFilled}
 use Rattle.og_core.specs.Machine.{MachineState, setup_in, take_refusal, message_refusal}
 use Rattle.og_core.proofs.Choices.{shape_of, take_alone}
@@ -23,6 +23,7 @@ mine a b e = let t : nat_eq a b ≡ true = grind (arith, nat_tests) in rw t refl
 runs_where : (x : NodeState) (k : Kind) → x.hart.cause ≡ None → RunsWhereFilled x k
 runs_where x (ReadEx block) runs = tt
 runs_where x (ExclusiveReply block line acks) runs = runs
+runs_where x other runs = tt
 
 -- what is found for an actor is found, and is for it
 found_parts : (a : ℕ) (i : MsgId) (ms : List (Msg Kind)) (m : Msg Kind) → found_for a i ms ≡ Some m → (find i ms ≡ Some m) × (m.to ≡ a)
