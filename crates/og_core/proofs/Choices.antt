@@ -136,12 +136,6 @@ take_at_is w at k (waiting x block m seats flight r runs to) low lt there =
     let same : m ≡ k = cc in
     rw (seats, flight, to) (subst (λ (j : Msg Kind). slice_get (act_by 0 (can_act_of x.local) ++ Take 0 m.id ∷ []) at ≡ Some (Take 0 j.id)) same (take_after (can_act_of x.local) (Take 0 m.id) (Take 0 m.id) at (omega arith) (omega arith)))
 
-pub drained : (w : World NodeState Kind) → Shape w → is_stopped w ≡ true → drain_of w ≡ None → is_quiet w ≡ true
-drained w s stopped none = none_quiet w s (rw stopped none)
-
-pub quiet_drained : (w : World NodeState Kind) → Shape w → is_stopped w ≡ true → is_quiet w ≡ true → drain_of w ≡ None
-quiet_drained w s stopped quiet = rw stopped at (quiet_none w s quiet)
-
 -- ------------------------------------------------------------ what is in flight beside an event
 
 -- a node that may act has nothing in flight
@@ -178,17 +172,6 @@ first_none (m ∷ ms) is = absurd (first_there m (first_sent ms) is)
 -- none is first exactly where a stopped machine is quiet
 pub drain_none : (w : World NodeState Kind) → is_stopped w ≡ true → first_sent w.flight ≡ None → is_quiet w ≡ true
 drain_none w stopped none = rw (stopped, first_none w.flight none) refl
-
-pub drain_some : (w : World NodeState Kind) (k : Msg Kind) → first_sent w.flight ≡ Some k → is_quiet w ≡ true → ⊥
-drain_some w k some quiet = at w.flight some quiet
-  where
-    at : (ms : List (Msg Kind)) → first_sent ms ≡ Some k → (is_stopped w && nat_eq (length ms) 0) ≡ true → ⊥
-    at [] is q = let none : None ≡ Some k = is in absurd (cc)
-    at (m ∷ ms) is q = no (is_stopped w) q
-      where
-        no : (b : Bool) → (b && nat_eq (length (m ∷ ms)) 0) ≡ true → ⊥
-        no true h = let not : nat_eq (length (m ∷ ms)) 0 ≡ false = grind (arith, nat_tests) in let e : true ≡ false = sym h ∙ not in absurd (cc)
-        no false h = absurd (cc)
 
 -- what is next is enabled
 pub next_enabled : (w : World NodeState Kind) (o : Option Choice) → Shape w → o ≡ next_choice w → IfSome o (λ c. refusal_of w c ≡ None)

@@ -36,13 +36,6 @@ moves_on image h plain =
     let more : h.left ≡ suc (finish_of image h 0).left = omega arith in
     ap (λ (n : ℕ). at_need_within image n h) more ∙ one_on image (finish_of image h 0).left h plain
 
--- harts where one has changed
-hart_same : (harts : ℕ → HartState) (p q : ℕ) (h : HartState) → q ≡ p → with_hart harts p h q ≡ h
-hart_same harts p q h e = grind (arith, nat_tests)
-
-hart_other : (harts : ℕ → HartState) (p q : ℕ) (h : HartState) → q ≢ p → with_hart harts p h q ≡ harts q
-hart_other harts p q h e = grind (arith, nat_tests)
-
 -- one hart of both goes on
 behind_with : (image : ImageState) (fs hs : ℕ → HartState) (p : ℕ) (f h : HartState) → ((q : ℕ) → Behind image (fs q) (hs q)) → Behind image f h → (q : ℕ) → Behind image (with_hart fs p f q) (with_hart hs p h q)
 behind_with image fs hs p f h all one q = at (cases_Bool (nat_eq q p))

@@ -32,11 +32,15 @@ pub struct Machine {
 }
 
 impl Model for Machine {
+    ghost use Rattle.std.specs.Coded.{codes};
     ghost use Rattle.std.specs.Prelude.{◌≤◌};
     ghost use Rattle.og_base.specs.Settings.{settings_seen};
+    ghost use Rattle.og_directory.specs.contracts.entry.State as entry;
     ghost use Rattle.og_core.specs.Machine.{MachineState};
 
     ghost Value = { MachineState };
+
+    ghost coded = { Prim.hlevel (codes, entry.the_row.coded) };
 
     ghost view = { λ m. record { layout = m.layout; settings = settings_seen m.settings; world = record { seats = m.seats.items; flight = m.flight.messages } } };
 

@@ -9,7 +9,10 @@ ghost use Rattle.og_base.specs.Settings.{settings_seen};
 ghost use Rattle.og_core.specs.Start.{start_node, home_lines, home_line_of};
 ghost use Rattle.std.specs.Prelude.{IfOk};
 
-use og_base::{Block, Cause, NoMemory, NodeId, NotEnabled, Settings, VPage};
+use og_base::{
+    BLOCK_BYTES, Block, Cause, FIRST_STACK, NoMemory, NodeId, NotEnabled, PAGE_BLOCKS, PAGE_BYTES,
+    STACK_STEP, Settings, VPage,
+};
 use og_directory::{Entry, State};
 use og_flat::machine::start_line;
 use og_line::{Access, Line, Reservation};
@@ -21,7 +24,7 @@ use std::alloc::Global;
 use std::marker::Model;
 
 /// Blocks of a frame.
-const BLOCKS: usize = 32;
+const BLOCKS: usize = PAGE_BLOCKS as usize;
 
 /// What an event of a node gives besides the node's new state.
 #[derive(Clone, Copy)]
@@ -43,9 +46,13 @@ pub struct Node {
 }
 
 impl Model for Node {
+    ghost use Rattle.std.specs.Coded.{codes};
+    ghost use Rattle.og_directory.specs.contracts.entry.State as entry;
     ghost use Rattle.og_core.specs.Node.{NodeState};
 
     ghost Value = { NodeState };
+
+    ghost coded = { Prim.hlevel (codes, entry.the_row.coded) };
 
     ghost view = { λ n. record { hart = n.hart; reserved = n.reserved; copies = n.copies.items; request = n.request; entries = n.entries.items; lines = n.lines.items } };
 }
@@ -54,10 +61,10 @@ impl Model for Node {
 fn block_of(layout: &Layout, addr: u64) -> Option<Block>
     ensures { result ≡ block_at layout.now addr }
 {
-    let frame = layout.first(VPage(addr / 4096))?;
+    let frame = layout.first(VPage(addr / PAGE_BYTES))?;
     Some(Block {
         frame,
-        number: (addr / 128 % 32) as u8,
+        number: (addr / BLOCK_BYTES % u64::from(PAGE_BLOCKS)) as u8,
     })
 }
 
@@ -270,7 +277,7 @@ impl Node {
         ensures { IfOk result (λ made. made ≡ start_node (setup_of image.now layout.now (settings_seen settings.now)) node) }
     {
         let blocks = usize::from(settings.frames) * BLOCKS;
-        let stack = (FIRST_STACK_PAGE + 2 * u64::from(node) + 1) * 4096;
+        let stack = FIRST_STACK + u64::from(node) * STACK_STEP + PAGE_BYTES;
         Ok(Node {
             hart: Hart::start(
                 image.entry(),
@@ -287,8 +294,6 @@ impl Node {
         })
     }
 }
-
-const FIRST_STACK_PAGE: u64 = 0x70000;
 
 /// The home's lines of a node at the start, in the order of their numbers.
 fn home_lines(
