@@ -4,7 +4,7 @@ use Rattle.std.proofs.Common.{◌≡◌, ℕ, ◌≤◌, Bool, true, false, List
 use Rattle.std.proofs.Math.Path.{◌∙◌}
 use Rattle.std.proofs.lemmas.List.{take_all, length-drop}
 use Rattle.og_cli.specs.declared.words.Choices.{Choices}
-use Rattle.og_cli.specs.Outside.{texts}
+use Rattle.og_io.specs.Outside.{texts}
 use Rattle.og_cli.specs.Words.{is_raw, choose_raw, choose_number, options_of}
 use Rattle.og_cli.proofs.Numbers.{if_holds, if_fails}
 

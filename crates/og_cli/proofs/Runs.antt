@@ -13,7 +13,7 @@ use Rattle.og_cli.specs.Simulate.{IsSimulated}
 use Rattle.og_cli.specs.declared.words.WordsFault.{WordsFault}
 use Rattle.og_cli.specs.declared.words.WordsFault.TheVariants as words
 use Rattle.og_cli.specs.Words.{JobState}
-use Rattle.og_cli.specs.Outside.{ShelfState, SinkState}
+use Rattle.og_io.specs.Outside.{ShelfState, SinkState}
 use Rattle.og_base.specs.Settings.{SettingsState}
 use Rattle.og_cli.specs.Exit.{CommandEnds, refused_of, RunEnds, IsRunText, PrintEnds, image_of, image_fault}
 

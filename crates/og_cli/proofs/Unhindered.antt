@@ -6,7 +6,7 @@ use Rattle.og_cli.specs.declared.exit.Exit.{Exit}
 use Rattle.og_cli.specs.declared.exit.Exit.TheVariants as exit
 use Rattle.og_cli.specs.declared.exit.ImageFault.{ImageFault}
 use Rattle.og_cli.specs.declared.exit.ImageFault.TheVariants as fault
-use Rattle.og_cli.specs.Outside.{ShelfState, SinkState, Files, file_of, HasFile, HasLongFile, AddsName, Rises, IsAsBefore}
+use Rattle.og_io.specs.Outside.{ShelfState, SinkState, Files, file_of, HasFile, HasLongFile, AddsName, Rises, IsAsBefore}
 use Rattle.og_cli.specs.Words.{JobState}
 use Rattle.og_cli.specs.Exit.{CommandEnds, EndsUnhindered, HasImage, is_built, image_fault, settings_of}
 

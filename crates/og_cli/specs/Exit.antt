@@ -11,7 +11,7 @@ use Rattle.og_cli.specs.declared.exit.Exit.{Exit}
 use Rattle.og_cli.specs.declared.exit.Exit.TheVariants as exit
 use Rattle.og_cli.specs.declared.exit.ImageFault.{ImageFault}
 use Rattle.og_cli.specs.declared.exit.ImageFault.TheVariants as fault
-use Rattle.og_cli.specs.Outside.{ShelfState, SinkState, Files, file_of, HasFile, HasLongFile, appended, AppendsPrefix, Rises, IsAsBefore}
+use Rattle.og_io.specs.Outside.{ShelfState, SinkState, Files, file_of, HasFile, HasLongFile, appended, AppendsPrefix, Rises, IsAsBefore}
 use Rattle.og_cli.specs.Text.{text_of}
 use Rattle.og_cli.specs.Simulate.{IsSimulated}
 use Rattle.og_cli.specs.declared.words.WordsFault.{WordsFault}

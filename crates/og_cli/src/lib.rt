@@ -1,8 +1,7 @@
 //! The command: what it reads and writes, and what it prints.
 //!
-//! Below stand the machine and all that it stands on. Above stand programs of one line, and the
-//! comparison of the examples. `outside` has the files and sinks, real and in memory; `words` what the
-//! words of the command line ask for; `simulate` a run from a machine's start; `text` the text of a run;
+//! Below stand the machine and all that it stands on, and the files and sinks of `og_io`. Above stand programs of one line, and the
+//! comparison of the examples. `words` has what the words of the command line ask for; `simulate` a run from a machine's start; `text` the text of a run;
 //! `exit` how the command ends; `top` the command from its words to its answer; `program` the whole
 //! program over the system's files and streams.
 //!
@@ -10,7 +9,6 @@
 #![tactic(auto)]
 
 pub mod exit;
-pub mod outside;
 pub mod program;
 pub mod simulate;
 pub mod text;

@@ -6,11 +6,11 @@
 
 ghost use Rattle.std.specs.Prelude.{◌≡◌, drop};
 ghost use Rattle.og_cli.specs.Exit.{EndsWithStatus};
-ghost use Rattle.og_cli.specs.Outside.{texts};
+ghost use Rattle.og_io.specs.Outside.{texts};
 ghost use Rattle.og_cli.specs.Words.{job_of};
 
-use crate::outside::real::{FileShelf, StreamSink};
-use crate::outside::{Shelf, Sink};
+use og_io::real::{FileShelf, StreamSink};
+use og_io::{Shelf, Sink};
 use crate::top::origin_alone;
 use std::alloc::Global;
 use std::env;

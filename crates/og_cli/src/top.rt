@@ -5,14 +5,14 @@ ghost use Rattle.rv_hart.specs.Layout.{pages_of};
 ghost use Rattle.rv_hart.specs.Raw.{is_out};
 ghost use Rattle.og_base.specs.Settings.{settings_seen};
 ghost use Rattle.og_core.specs.Machine.{start_of};
-ghost use Rattle.og_cli.specs.Outside.{TellsLongFile, parts_text, texts};
+ghost use Rattle.og_io.specs.Outside.{TellsLongFile, parts_text, texts};
 ghost use Rattle.og_cli.specs.Simulate.{IsSimulated};
 ghost use Rattle.og_cli.specs.Text.{text_of};
 ghost use Rattle.og_cli.specs.Exit.{fault_text, refused_of, default_settings, is_built, JobEnds, CommandEnds, EndsUnhindered, IsReported, name_of, PrintEnds, ended_of, RunEnds, IsRunText, image_of, image_fault, error_line};
 ghost use Rattle.og_cli.specs.Words.{job_seen, job_of};
 
 use crate::exit::{Exit, ImageFault};
-use crate::outside::{Shelf, ShelfFault, Sink, SinkFault, write_all, write_parts};
+use og_io::{Shelf, ShelfFault, Sink, SinkFault, write_all, write_parts};
 use crate::simulate::{Simulated, simulate};
 use crate::text::write_text;
 use crate::words::{Job, WordsFault, read_words};

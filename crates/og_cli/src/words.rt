@@ -5,7 +5,7 @@
 //! `--instructions D`. D is a decimal number without leading zeros.
 
 ghost use Rattle.std.specs.Prelude.{◌≡◌, ◌≤◌, ◌↔◌, Option, None, Some, Err, IfSome, IfOk, MatchOption, string_bytes};
-ghost use Rattle.og_cli.specs.Outside.{texts};
+ghost use Rattle.og_io.specs.Outside.{texts};
 ghost use Rattle.og_cli.specs.Words.{job_seen, number_in as number_of, first_number as number_chosen, choose_raw as raw_chosen, choose_number as chosen, options_of, AreInRange, begins_with_dash as has_dash, job_with, job_of};
 
 use itoa::Buffer;

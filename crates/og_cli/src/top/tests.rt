@@ -1,6 +1,6 @@
 use super::*;
-use crate::outside::memory::{MemoryShelf, MemorySink};
-use crate::outside::real::StreamSink;
+use og_io::memory::{MemoryShelf, MemorySink};
+use og_io::real::StreamSink;
 use std::fs::{self, File};
 use std::test::Fail;
 

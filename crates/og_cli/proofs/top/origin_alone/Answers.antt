@@ -2,7 +2,7 @@ use Rattle.std.proofs.Common.{◌≡◌, ℕ, List, Option, Some, Result, Err, s
 use Rattle.og_cli.specs.declared.exit.Exit.{Exit}
 use Rattle.og_cli.specs.declared.words.WordsFault.{WordsFault}
 use Rattle.og_cli.specs.declared.words.WordsFault.TheVariants as words
-use Rattle.og_cli.specs.Outside.{ShelfState, SinkState, texts}
+use Rattle.og_io.specs.Outside.{ShelfState, SinkState, texts}
 use Rattle.og_cli.specs.Words.{JobState, job_of, job_seen}
 use Rattle.og_cli.specs.Exit.{IsReported, CommandEnds, EndsUnhindered, error_line, name_of}
 use Rattle.og_cli.proofs.Runs.{refused_ends}

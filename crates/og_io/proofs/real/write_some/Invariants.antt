@@ -1,6 +1,6 @@
 -- A write that was interrupted wrote nothing.
 use Rattle.std.specs.Io.KnownBytes.{Keeps}
-use Rattle.og_cli.proofs.outside.real.write_some.Given as goal
+use Rattle.og_io.proofs.real.write_some.Given as goal
 
 abbrev pub invariant-loop : goal.invariant-loop
 invariant-loop g l = Keeps (g.W.Write.contents l.initial.writer) (g.W.Write.contents l.writer)

@@ -1,7 +1,7 @@
 -- What was written and what is left make up the text.
 use Rattle.std.proofs.Common.{◌≡◌, ℕ, List, ◌++◌, length}
-use Rattle.og_cli.specs.Outside.{appended}
-use Rattle.og_cli.proofs.outside.write_all.Given as goal
+use Rattle.og_io.specs.Outside.{appended}
+use Rattle.og_io.proofs.write_all.Given as goal
 
 abbrev pub invariant-loop-rest : goal.invariant-loop-rest
 invariant-loop-rest g l = record {

@@ -3,7 +3,7 @@ use Rattle.std.proofs.Common.{◌≡◌, ◌≢◌, ℕ, zero, suc, get_or, Bor,
 use Rattle.std.proofs.Math.Path.{◌∙◌}
 use Rattle.std.proofs.Math.Seq.{take-append_seam}
 use Rattle.std.proofs.lemmas.List.{take-append-drop, take-append-le, take_all, append-nil, length-take}
-use Rattle.og_cli.specs.Outside.{appended, AppendsPrefix, parts_text}
+use Rattle.og_io.specs.Outside.{appended, AppendsPrefix, parts_text}
 
 -- within the first k elements, the first n of these are the first n of all
 pub take_within : (n k : ℕ) (xs : List ℕ) → n ≤ length (take k xs) → take n (take k xs) ≡ take n xs

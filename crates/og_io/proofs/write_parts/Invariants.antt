@@ -1,7 +1,7 @@
 -- What was written and the parts that are left make up the text.
 use Rattle.std.proofs.Common.{◌≡◌, ℕ, List, ◌++◌, drop}
-use Rattle.og_cli.specs.Outside.{appended, parts_text}
-use Rattle.og_cli.proofs.outside.write_parts.Given as goal
+use Rattle.og_io.specs.Outside.{appended, parts_text}
+use Rattle.og_io.proofs.write_parts.Given as goal
 
 abbrev pub invariant-loop-part : goal.invariant-loop-part
 invariant-loop-part g l = record {

@@ -1,12 +1,17 @@
 //! The outside: a shelf that gives files and a sink that takes bytes, as traits, so that a test can
 //! stand in for files and streams.
 //!
+//! It stands on nothing of the machine; the command stands above. `memory` has a shelf and a sink for
+//! tests, `real` the system's files and a sink over a writer. A text is written in pieces of at most
+//! 65,536 bytes, and writing takes no memory of its own.
+//!
 //! What the real ones read and write no contract can say. So a shelf says what its files are only
 //! where it tells them, and a sink what it holds only where it tells it. A fault is never free: a
 //! shelf keeps the names that it failed at, and a sink counts its faults.
+#![tactic(auto)]
 
 ghost use Rattle.std.specs.Prelude.{◌≡◌, ◌≢◌, ℕ, ◌≤◌, List, [], length, take, Option, Ok, Err, OnOk, OnErr, IfOk, vec_len};
-ghost use Rattle.og_cli.specs.Outside.{ShelfState, SinkState, HasFile, HasLongFile, TellsLongFile, AddsName, AddsAtMost, appended, AppendsPrefix, Rises, texts, parts_text};
+ghost use Rattle.og_io.specs.Outside.{ShelfState, SinkState, HasFile, HasLongFile, TellsLongFile, AddsName, AddsAtMost, appended, AppendsPrefix, Rises, texts, parts_text};
 
 use std::alloc::{AllocError, Global};
 
@@ -54,7 +59,7 @@ pub trait Shelf {
 
 impl From<AllocError> for ShelfFault {
     ghost use Rattle.std.specs.Prelude.{◌≡◌};
-    ghost use Rattle.og_cli.specs.declared.outside.ShelfFault.TheVariants.{Memory};
+    ghost use Rattle.og_io.specs.declared.ShelfFault.TheVariants.{Memory};
 
     ghost from_gives = { λ _ e. e ≡ Memory };
 

@@ -1,7 +1,7 @@
 -- What contracts see of a shelf and a sink in memory.
 use Rattle.std.specs.Prelude.{ℕ, ◌+◌, ◌-◌, ◌^◌, min, List, [], ◌∷◌, string_bytes}
-use Rattle.og_cli.specs.declared.outside.memory.NamedFile.{NamedFile}
-use Rattle.og_cli.specs.Outside.{Files}
+use Rattle.og_io.specs.declared.memory.NamedFile.{NamedFile}
+use Rattle.og_io.specs.Outside.{Files}
 
 -- the names and bytes of the files
 abbrev pub entries : List NamedFile → Files

@@ -1,6 +1,6 @@
 use Rattle.std.proofs.Common.{arith}
-use Rattle.og_cli.proofs.Pieces.{piece_taken, piece_some, piece_appends}
-use Rattle.og_cli.proofs.outside.write_piece.Goals as goal
+use Rattle.og_io.proofs.Pieces.{piece_taken, piece_some, piece_appends}
+use Rattle.og_io.proofs.write_piece.Goals as goal
 
 pub returns-clause-taken : goal.returns-clause-taken
 returns-clause-taken g c = piece_taken c.write.result 65536 c.args.text.now c.first_piece.result.now c.first_piece.ensures c.write.ensures.taken

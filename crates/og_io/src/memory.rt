@@ -1,12 +1,11 @@
 //! Files and a sink in memory, for tests. Both fail at the calls that they are to fail at.
 
 ghost use Rattle.std.specs.Prelude.{◌≡◌, ◌≢◌, ℕ, ◌+◌, ◌-◌, ◌^◌, ◌<◌, ◌≤◌, ◌⊎◌, min, List, [], ◌∷◌, ◌++◌, length, take, map, Option, None, Some, Ok, Err, true, OnOk, OnErr, IfOk, MatchOption, vec_len, string_bytes, Contains};
-ghost use Rattle.og_cli.specs.Memory.{entries, one_more};
-ghost use Rattle.og_cli.specs.Outside.{ShelfState, SinkState, file_of, HasFile, HasLongFile, TellsLongFile, AddsName, AddsAtMost, appended, Rises, texts};
+ghost use Rattle.og_io.specs.Memory.{entries, one_more};
+ghost use Rattle.og_io.specs.Outside.{ShelfState, SinkState, file_of, HasFile, HasLongFile, TellsLongFile, AddsName, AddsAtMost, appended, Rises, texts};
 
 use super::{Shelf, ShelfFault, Sink, SinkFault, name_fault};
-use og_base::NoMemory;
-use std::alloc::Global;
+use std::alloc::{AllocError, Global};
 use std::marker::Model;
 
 /// A file in memory.
@@ -26,8 +25,8 @@ pub struct MemoryShelf {
 }
 
 impl Model for MemoryShelf {
-    ghost use Rattle.og_cli.specs.Memory.{MemoryFiles, entries};
-    ghost use Rattle.og_cli.specs.Outside.{texts};
+    ghost use Rattle.og_io.specs.Memory.{MemoryFiles, entries};
+    ghost use Rattle.og_io.specs.Outside.{texts};
 
     ghost Value = { MemoryFiles };
 
@@ -48,7 +47,7 @@ impl MemoryShelf {
     }
 
     /// Puts a file before all others, so that it counts from now on.
-    pub fn put(&mut self, name: String, bytes: Vec<u8>) -> Result<(), NoMemory>
+    pub fn put(&mut self, name: String, bytes: Vec<u8>) -> Result<(), AllocError>
         ensures put { OnOk result (self.new ≡ record self.old { files = (string_bytes name, bytes.items) ∷ self.old.files }) }
         ensures unchanged { OnErr result (self.new ≡ self.old) }
     {
@@ -143,7 +142,7 @@ pub struct MemorySink {
 
 impl Model for MemorySink {
     ghost use Rattle.std.specs.Prelude.{◌≡◌, ◌≤◌, []};
-    ghost use Rattle.og_cli.specs.Memory.{MemoryBytes};
+    ghost use Rattle.og_io.specs.Memory.{MemoryBytes};
 
     ghost Value = { MemoryBytes };
 

@@ -1,7 +1,7 @@
 use Rattle.std.proofs.Math.Path.{◌∙◌}
-use Rattle.og_cli.specs.Outside.{AppendsPrefix}
-use Rattle.og_cli.proofs.Pieces.{on_err, prefix_of_split, split_more}
-use Rattle.og_cli.proofs.outside.write_all.Goals as goal
+use Rattle.og_io.specs.Outside.{AppendsPrefix}
+use Rattle.og_io.proofs.Pieces.{on_err, prefix_of_split, split_more}
+use Rattle.og_io.proofs.write_all.Goals as goal
 
 pub returns-in_err-written-clause-prefix : goal.returns-in_err-written-clause-prefix
 returns-in_err-written-clause-prefix g c =

@@ -1,7 +1,7 @@
 use Rattle.std.proofs.Math.Path.{◌∙◌}
-use Rattle.og_cli.specs.Outside.{AppendsPrefix, parts_text}
-use Rattle.og_cli.proofs.Pieces.{on_err, prefix_of_part, split_part}
-use Rattle.og_cli.proofs.outside.write_parts.Goals as goal
+use Rattle.og_io.specs.Outside.{AppendsPrefix, parts_text}
+use Rattle.og_io.proofs.Pieces.{on_err, prefix_of_part, split_part}
+use Rattle.og_io.proofs.write_parts.Goals as goal
 
 pub returns-in_err-write_all-clause-prefix : goal.returns-in_err-write_all-clause-prefix
 returns-in_err-write_all-clause-prefix g c =

@@ -3,7 +3,7 @@
 
 ghost use Rattle.std.specs.Prelude.{◌≡◌, ◌≢◌, ℕ, ◌+◌, ◌<◌, ◌≤◌, List, [], ◌++◌, length, Option, None, Ok, Err, OnErr, IfOk, IsTrue, vec_len};
 ghost use Rattle.std.specs.Io.KnownBytes.{Consumes, IsAtEnd, WriteAppends};
-ghost use Rattle.og_cli.specs.Outside.{ShelfState, SinkState, HasFile, HasLongFile, AddsName, AddsAtMost, appended, Rises, texts};
+ghost use Rattle.og_io.specs.Outside.{ShelfState, SinkState, HasFile, HasLongFile, AddsName, AddsAtMost, appended, Rises, texts};
 
 use super::{PIECE_BYTES, Shelf, ShelfFault, Sink, SinkFault, name_fault};
 use std::alloc::Global;
