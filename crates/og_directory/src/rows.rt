@@ -44,9 +44,8 @@ fn can_be_written_back(entry: &Entry, sender: ActorId) -> bool
     ensures { (n : ℕ) (b : Place) (l : Memory) → result ≡ is_some (write_back_row n sender b l entry.now) }
 {
     match entry.state() {
-        State::Exclusive(owner)
-        | State::BusyShared { owner, .. }
-        | State::BusyPoison { owner } => owner == sender,
+        State::Exclusive(owner) | State::BusyShared { owner, .. } | State::BusyPoison { owner } =>
+            owner == sender,
         State::BusyExclusive {
             owner,
             requester,
