@@ -175,3 +175,6 @@ pub fn room(settings: &Settings) -> u64
     let nodes = u64::from(settings.nodes);
     33 * frames * nodes + nodes * nodes + 7 * nodes + 1
 }
+
+#[cfg(test)]
+mod tests;

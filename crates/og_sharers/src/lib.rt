@@ -18,3 +18,6 @@ mod sharers;
 
 pub use nodes::Nodes;
 pub use sharers::Sharers;
+
+#[cfg(test)]
+mod tests;
