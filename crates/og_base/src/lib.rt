@@ -10,7 +10,7 @@
 //! laws of runs, which stand below and know nothing of this machine.
 #![tactic(auto)]
 
-ghost use Rattle.std.specs.Prelude.{◌≡◌, ℕ, ◌+◌, ◌*◌, ◌<◌, ◌≤◌};
+ghost use Rattle.std.specs.Prelude.{◌≡◌, ◌+◌, ◌*◌, ◌<◌, ◌≤◌};
 ghost use Rattle.og_base.specs.Groups.{group_size as size_of_group};
 
 pub use og_runs::{Choice, MsgId, Stamp, act_stamp, take_stamp};

@@ -1,8 +1,7 @@
 //! The home's table, one function for each kind of message.
 
-ghost use Rattle.std.specs.Prelude.{◌≡◌, ◌≤◌, ◌<◌, ◌+◌, ◌++◌, ◌∷◌, ℕ, [], length, map, not, is_some, IsSome, IfSome, false};
+ghost use Rattle.std.specs.Prelude.{◌≡◌, ◌≤◌, ◌<◌, ◌+◌, ◌++◌, ◌∷◌, [], length, map, not, IsSome, IfSome, false};
 ghost use Rattle.std.specs.List.{list_any};
-ghost use Rattle.og_line.specs.declared.Line.{Line as Memory};
 ghost use Rattle.og_msg.specs.declared.Kind.{Kind as Said};
 ghost use Rattle.og_directory.specs.Table.{to, with_node, sharers_but, grant as granted, is_refusal, read_row, read_exclusive_row, upgrade_row, write_back_row, sharing_row, transfer_row, poisoned_row, poison_row, copy_row, row_of, is_request, is_counted, IsFromItsSender, NamesNodes};
 
