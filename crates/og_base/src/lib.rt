@@ -10,7 +10,7 @@
 //! laws of runs, which stand below and know nothing of this machine.
 #![tactic(auto)]
 
-ghost use Rattle.std.specs.Prelude.{◌≡◌, ℕ, ◌+◌, ◌*◌, ◌<◌, ◌≤◌};
+ghost use Rattle.std.specs.Prelude.{◌≡◌, ◌+◌, ◌*◌, ◌<◌, ◌≤◌};
 ghost use Rattle.og_base.specs.Groups.{group_size as size_of_group};
 
 pub use og_runs::{Choice, MsgId, Stamp, act_stamp, take_stamp};
@@ -173,3 +173,6 @@ pub fn room(settings: &Settings) -> u64
     let nodes = u64::from(settings.nodes);
     33 * frames * nodes + nodes * nodes + 7 * nodes + 1
 }
+
+#[cfg(test)]
+mod tests;

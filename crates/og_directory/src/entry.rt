@@ -1,7 +1,6 @@
 //! A directory entry, packed into two words.
 
-ghost use Rattle.std.specs.Prelude.{◌≡◌, ◌<◌, ◌+◌, ◌*◌, ◌^◌, ℕ, if◌then◌else◌, Some, IfSome, is_some};
-ghost use Rattle.og_line.specs.declared.Line.{Line as Memory};
+ghost use Rattle.std.specs.Prelude.{◌≡◌, ◌<◌, ◌+◌, ◌*◌, ◌^◌, if◌then◌else◌, Some, IfSome};
 ghost use Rattle.og_sharers.specs.Sets.{word_of};
 ghost use Rattle.og_directory.specs.declared.entry.State.{State as Seen};
 ghost use Rattle.og_directory.specs.Words.{head_of, set_of, state_of, FieldsFit, IsKept};

@@ -1,8 +1,7 @@
 //! The home's table, one function for each kind of message.
 
-ghost use Rattle.std.specs.Prelude.{◌≡◌, ◌≤◌, ◌<◌, ◌+◌, ◌++◌, ◌∷◌, ℕ, [], length, map, not, is_some, IsSome, IfSome, false};
+ghost use Rattle.std.specs.Prelude.{◌≡◌, ◌≤◌, ◌<◌, ◌+◌, ◌++◌, ◌∷◌, [], length, map, not, IsSome, IfSome, false};
 ghost use Rattle.std.specs.List.{list_any};
-ghost use Rattle.og_line.specs.declared.Line.{Line as Memory};
 ghost use Rattle.og_msg.specs.declared.Kind.{Kind as Said};
 ghost use Rattle.og_directory.specs.Table.{to, with_node, sharers_but, grant as granted, is_refusal, read_row, read_exclusive_row, upgrade_row, write_back_row, sharing_row, transfer_row, poisoned_row, poison_row, copy_row, row_of, is_request, is_counted, IsFromItsSender, NamesNodes};
 
@@ -78,10 +77,12 @@ fn read(entry: &mut Entry, line: &Line, case: Case, out: &mut Outbox) -> bool
     requires nodes { case.nodes ≤ 128 }
     requires sender { case.sender < case.nodes }
     requires room { length out.old + 2 ≤ 132 }
+    requires named { NamesNodes case.nodes entry.old }
     ensures entry { entry.new ≡ (read_row case.nodes line.now case.sender case.block entry.old).entry }
     ensures line { line.now ≡ (read_row case.nodes line.now case.sender case.block entry.old).line }
     ensures letters { out.new ≡ out.old ++ (read_row case.nodes line.now case.sender case.block entry.old).letters }
     ensures counts { result ≡ not (list_any is_refusal (read_row case.nodes line.now case.sender case.block entry.old).letters) }
+    ensures named { NamesNodes case.nodes entry.new }
 {
     let Case {
         block,
@@ -153,10 +154,12 @@ fn read_exclusive(entry: &mut Entry, line: &Line, case: Case, out: &mut Outbox) 
     requires nodes { case.nodes ≤ 128 }
     requires sender { case.sender < case.nodes }
     requires room { length out.old + case.nodes + 2 ≤ 132 }
+    requires named { NamesNodes case.nodes entry.old }
     ensures entry { entry.new ≡ (read_exclusive_row case.nodes line.now case.sender case.block entry.old).entry }
     ensures line { line.now ≡ (read_exclusive_row case.nodes line.now case.sender case.block entry.old).line }
     ensures letters { out.new ≡ out.old ++ (read_exclusive_row case.nodes line.now case.sender case.block entry.old).letters }
     ensures counts { result ≡ not (list_any is_refusal (read_exclusive_row case.nodes line.now case.sender case.block entry.old).letters) }
+    ensures named { NamesNodes case.nodes entry.new }
 {
     let Case { block, sender, .. } = case;
     let line = *line;
@@ -245,10 +248,12 @@ fn upgrade(entry: &mut Entry, line: &Line, case: Case, out: &mut Outbox) -> bool
     requires nodes { case.nodes ≤ 128 }
     requires sender { case.sender < case.nodes }
     requires room { length out.old + case.nodes + 2 ≤ 132 }
+    requires named { NamesNodes case.nodes entry.old }
     ensures entry { IfSome (upgrade_row case.nodes line.now case.sender case.block entry.old) (λ row. entry.new ≡ row.entry) }
     ensures line { IfSome (upgrade_row case.nodes line.now case.sender case.block entry.old) (λ row. line.now ≡ row.line) }
     ensures letters { IfSome (upgrade_row case.nodes line.now case.sender case.block entry.old) (λ row. out.new ≡ out.old ++ row.letters) }
     ensures counts { IfSome (upgrade_row case.nodes line.now case.sender case.block entry.old) (λ row. result ≡ not (list_any is_refusal row.letters)) }
+    ensures named { NamesNodes case.nodes entry.new }
 {
     match entry.state() {
         State::Shared(_) if entry.sharers().has(case.sender, case.nodes) => {
@@ -277,6 +282,7 @@ fn write_back(entry: &mut Entry, line: &mut Line, case: Case, fresh: Line, out: 
     ensures entry { IfSome (write_back_row case.nodes case.sender case.block fresh entry.old) (λ row. entry.new ≡ row.entry) }
     ensures line { IfSome (write_back_row case.nodes case.sender case.block fresh entry.old) (λ row. line.new ≡ row.line) }
     ensures letters { IfSome (write_back_row case.nodes case.sender case.block fresh entry.old) (λ row. out.new ≡ out.old ++ row.letters) }
+    ensures named { NamesNodes case.nodes entry.new }
 {
     let Case {
         block,
@@ -345,6 +351,7 @@ fn share(entry: &mut Entry, line: &Line, case: Case)
     ensures entry { IfSome (sharing_row case.nodes case.sender line.now entry.old) (λ row. entry.new ≡ row.entry) }
     ensures line { IfSome (sharing_row case.nodes case.sender line.now entry.old) (λ row. line.now ≡ row.line) }
     ensures letters { IfSome (sharing_row case.nodes case.sender line.now entry.old) (λ row. row.letters ≡ []) }
+    ensures named { NamesNodes case.nodes entry.new }
 {
     let State::BusyShared { owner, requester } = entry.state() else {
         unreachable!()
@@ -356,9 +363,11 @@ fn share(entry: &mut Entry, line: &Line, case: Case)
 // `DirtyTransfer`: the owner has given the block away.
 fn transfer(entry: &mut Entry, line: &Line, case: Case)
     requires row { IsSome (transfer_row line.now case.sender entry.old) }
+    requires named { NamesNodes case.nodes entry.old }
     ensures entry { IfSome (transfer_row line.now case.sender entry.old) (λ row. entry.new ≡ row.entry) }
     ensures line { IfSome (transfer_row line.now case.sender entry.old) (λ row. line.now ≡ row.line) }
     ensures letters { IfSome (transfer_row line.now case.sender entry.old) (λ row. row.letters ≡ []) }
+    ensures named { NamesNodes case.nodes entry.new }
 {
     let State::BusyExclusive {
         requester,
@@ -382,6 +391,7 @@ fn give_up(entry: &mut Entry, line: &Line, case: Case, out: &mut Outbox)
     ensures entry { IfSome (poisoned_row case.nodes case.sender case.block line.now entry.old) (λ row. entry.new ≡ row.entry) }
     ensures line { IfSome (poisoned_row case.nodes case.sender case.block line.now entry.old) (λ row. line.now ≡ row.line) }
     ensures letters { IfSome (poisoned_row case.nodes case.sender case.block line.now entry.old) (λ row. out.new ≡ out.old ++ row.letters) }
+    ensures named { NamesNodes case.nodes entry.new }
 {
     let State::BusyPoison { .. } = entry.state() else {
         unreachable!()
@@ -404,9 +414,11 @@ fn poison(entry: &mut Entry, line: &Line, case: Case, out: &mut Outbox)
     requires nodes { case.nodes ≤ 128 }
     requires mover { case.sender ≡ case.nodes }
     requires room { length out.old + case.nodes + 2 ≤ 132 }
+    requires named { NamesNodes case.nodes entry.old }
     ensures entry { IfSome (poison_row case.nodes line.now case.block entry.old) (λ row. entry.new ≡ row.entry) }
     ensures line { IfSome (poison_row case.nodes line.now case.block entry.old) (λ row. line.now ≡ row.line) }
     ensures letters { IfSome (poison_row case.nodes line.now case.block entry.old) (λ row. out.new ≡ out.old ++ row.letters) }
+    ensures named { NamesNodes case.nodes entry.new }
 {
     let Case { block, sender, .. } = case;
     let line = *line;
@@ -474,6 +486,7 @@ fn settle(entry: &mut Entry, line: &mut Line, msg: &Msg, mover: ActorId, out: &m
     ensures entry { IfSome (row_of mover line.old msg.now entry.old) (λ row. entry.new ≡ row.entry) }
     ensures line { IfSome (row_of mover line.old msg.now entry.old) (λ row. line.new ≡ row.line) }
     ensures letters { IfSome (row_of mover line.old msg.now entry.old) (λ row. out.new ≡ out.old ++ row.letters) }
+    ensures named { NamesNodes mover entry.new }
 {
     match msg.kind {
         Kind::WriteBack { block, line: fresh } => {
@@ -519,6 +532,7 @@ pub fn home_step(
     ensures line { IfSome (row_of mover line.old msg.now entry.old) (λ row. line.new ≡ row.line) }
     ensures letters { IfSome (row_of mover line.old msg.now entry.old) (λ row. out.new ≡ out.old ++ row.letters) }
     ensures counts { IfSome (row_of mover line.old msg.now entry.old) (λ row. result ≡ is_counted msg.now.kind row.letters) }
+    ensures named { NamesNodes mover entry.new }
 {
     match msg.kind {
         Kind::Read { block } => read(entry, line, case_of(msg, mover, block), out),

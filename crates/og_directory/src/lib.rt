@@ -20,3 +20,6 @@ mod rows;
 
 pub use entry::{Entry, State};
 pub use home::home_step;
+
+#[cfg(test)]
+mod tests;

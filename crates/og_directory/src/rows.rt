@@ -1,15 +1,31 @@
 //! Which messages have a row at an entry.
 
-ghost use Rattle.std.specs.Prelude.{◌≡◌, ℕ, is_some};
+ghost use Rattle.std.specs.Prelude.{◌≡◌, ◌↔◌, ℕ, IsTrue, is_some};
 ghost use Rattle.og_base.specs.declared.Block.{Block as Place};
 ghost use Rattle.og_line.specs.declared.Line.{Line as Memory};
-ghost use Rattle.og_directory.specs.Table.{upgrade_row, write_back_row, sharing_row, transfer_row, poisoned_row, poison_row, copy_row, row_of};
+ghost use Rattle.og_directory.specs.Table.{upgrade_row, write_back_row, sharing_row, transfer_row, poisoned_row, poison_row, copy_row, row_of, NamesNodes};
 
 use crate::{Entry, State};
 use og_base::ActorId;
 use og_msg::{Kind, Msg};
 
 impl Entry {
+    /// Whether the nodes that the entry names are nodes of a machine of so many.
+    pub fn names_nodes(&self, nodes: u8) -> bool
+        ensures { IsTrue result ↔ NamesNodes nodes self.now }
+    {
+        match self.state() {
+            State::Exclusive(owner) | State::BusyPoison { owner } => owner < nodes,
+            State::BusyShared { owner, requester }
+            | State::BusyExclusive {
+                owner,
+                requester,
+                ..
+            } => { owner < nodes && requester < nodes }
+            State::Unowned | State::Shared(_) | State::Poison => true,
+        }
+    }
+
     /// Whether the home's table has a row for this message at this entry.
     pub fn has_row(&self, msg: &Msg) -> bool
         ensures { (n : ℕ) (m : Memory) → result ≡ is_some (row_of n m msg.now self.now) }
@@ -44,9 +60,8 @@ fn can_be_written_back(entry: &Entry, sender: ActorId) -> bool
     ensures { (n : ℕ) (b : Place) (l : Memory) → result ≡ is_some (write_back_row n sender b l entry.now) }
 {
     match entry.state() {
-        State::Exclusive(owner)
-        | State::BusyShared { owner, .. }
-        | State::BusyPoison { owner } => owner == sender,
+        State::Exclusive(owner) | State::BusyShared { owner, .. } | State::BusyPoison { owner } =>
+            owner == sender,
         State::BusyExclusive {
             owner,
             requester,

@@ -1,6 +1,5 @@
 -- The key that each message takes up while it is in flight.
 use Rattle.std.specs.Prelude.{ℕ, Bool, if◌then◌else◌}
-use Rattle.og_base.specs.declared.Block.{Block}
 use Rattle.og_runs.specs.declared.Msg.{Msg}
 use Rattle.og_msg.specs.declared.Kind.{Kind}
 use Rattle.og_msg.specs.declared.Kind.TheVariants.{Read, ReadEx, Upgrade, WriteBack, SharedReply, SpecReply, ExclusiveReply, UpgradeReply, Nak, PoisonError, WbAck, WbBusyAck, InterveneShared, InterveneEx, IntervenePoison, Invalidate, InvalAck, SharedResponse, ExclusiveResponse, OwnerAck, SharingWriteBack, PoisonBack, SharingTransfer, DirtyTransfer, PoisonClean, PoisonRead, PoisonReply, CopyIn, CopyDone, CleanFrame, FrameClean, Hot, Rearm, Walk, Walked, WalkRetry, DropFrame, Dropped}

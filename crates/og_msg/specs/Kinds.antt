@@ -1,5 +1,5 @@
 -- What the kinds of messages name and carry, and which of them the mover sends.
-use Rattle.std.specs.Prelude.{ℕ, Bool, true, false, Option, None, Some}
+use Rattle.std.specs.Prelude.{Bool, true, false, Option, None, Some}
 use Rattle.og_base.specs.declared.Block.{Block}
 use Rattle.og_line.specs.declared.Line.{Line}
 use Rattle.og_msg.specs.declared.Kind.{Kind}

@@ -326,3 +326,6 @@ fn intervention_key(block: Block, receiver: NodeId, victim: bool) -> Key
         Key::Busy(block)
     }
 }
+
+#[cfg(test)]
+mod tests;

@@ -8,9 +8,8 @@
 //!   directory, which names nodes while there are few and groups of nodes where there are many (J.
 //!   Laudon and D. Lenoski, "The SGI Origin: A ccNUMA Highly Scalable Server", ISCA 1997).
 //!
-//! Contracts see each as a finite set of numbers. Nothing takes memory; a call takes a few
-//! instructions, but [`Sharers::others`] of a machine of more than 64 nodes, which looks at each
-//! group of the set once.
+//! Contracts see each as a finite set of numbers. Nothing takes memory. A call takes a few
+//! instructions, and [`Sharers::others`] a few for each group of the set.
 #![tactic(auto)]
 
 mod nodes;
@@ -18,3 +17,6 @@ mod sharers;
 
 pub use nodes::Nodes;
 pub use sharers::Sharers;
+
+#[cfg(test)]
+mod tests;
