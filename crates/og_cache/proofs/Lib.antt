@@ -1,0 +1,7 @@
+pub mod First
+pub mod Lookups
+pub mod Sets
+pub mod Copies
+pub mod Kept
+pub mod Changes
+pub mod Seen
