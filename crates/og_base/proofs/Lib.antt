@@ -1,1 +1,3 @@
 pub mod SameNames
+pub mod First
+pub mod FoundPlaces

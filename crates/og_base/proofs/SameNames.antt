@@ -1,9 +1,16 @@
 -- The tests on names say what they mean: equal names are the same, and the same names are equal.
 use Rattle.std.proofs.Common.{◌≡◌, Bool, true, false, arith, refl}
 use Rattle.std.proofs.lemmas.Bool.Decides.{nat_tests}
+use Rattle.og_base.specs.declared.VPage.{VPage}
 use Rattle.og_base.specs.declared.Frame.{Frame}
 use Rattle.og_base.specs.declared.Block.{Block}
-use Rattle.og_base.specs.Names.{is_same_frame, is_same_block}
+use Rattle.og_base.specs.Names.{is_same_page, is_same_frame, is_same_block}
+
+pub is_same_page-self : (a : VPage) → is_same_page a a ≡ true
+is_same_page-self a = grind (arith, nat_tests)
+
+pub same_page : (a b : VPage) → is_same_page a b ≡ true → a ≡ b
+same_page a b h = grind (arith, nat_tests)
 
 pub is_same_frame-self : (a : Frame) → is_same_frame a a ≡ true
 is_same_frame-self a = grind (arith, nat_tests)

@@ -1,3 +1,4 @@
 pub mod Groups
 pub mod Numbers
 pub mod Names
+pub mod Places

@@ -9,18 +9,14 @@ use Rattle.og_base.specs.declared.Block.{Block}
 use Rattle.og_base.proofs.SameNames.{is_same_block-self, same_block, other_block}
 use Rattle.og_line.specs.declared.Mode.{Mode}
 use Rattle.og_line.specs.declared.Line.{Line}
+use Rattle.og_base.specs.Places.{held_by, found_in, PassesOnce}
 use Rattle.og_cache.specs.declared.CachedBlock.{CachedBlock}
 use Rattle.og_cache.specs.Cache.{Cached, IsCache, set_of, ways_in, ways_for, is_way_of, way_of, empty_way_of, copy_of, with_way, with_held, has_room, filled, next_of, thrown_out, after_throwing, reserved}
-use Rattle.og_cache.proofs.First.{position-none, position-set, is_some-position}
-use Rattle.og_cache.proofs.Lookups.{Ways, found-set_first, found-None, found-emptied, found-at}
+use Rattle.og_base.proofs.First.{position-none, position-set, is_some-position}
+use Rattle.og_base.proofs.FoundPlaces.{found-set_first, found-None, found-emptied, found-at, fails_everywhere}
 use Rattle.og_cache.proofs.Sets.{part_same, part_other}
 use Rattle.og_cache.proofs.Copies.{one_block, set_below, ways_length, copy_of-with_way_own, copy_of-with_way_other, way_below, way_holds, first_holds, copy_of-at}
 use Rattle.og_cache.proofs.Kept.{Suits, kept-with_way}
-
--- where no way holds the block, none at any place does
-no_way : (block : Block) (ways : Ways) (j : ℕ) → position (is_way_of block) ways ≡ None → is_way_of block (get_or ways j None) ≡ false
-no_way block ways j e =
-    elim (cases_lt j (length ways)) [ inl inside ↦ position-none (is_way_of block) ways j None e inside | inr past ↦ rw (get_or_past ways j None past) ]
 
 -- an empty way holds no block
 empty_way : (block : Block) (held : Option CachedBlock) → is_none held ≡ true → is_way_of block held ≡ false
@@ -39,7 +35,7 @@ module _ (c : Cached) (sound : IsCache c) where
       by_place None e = copy_of-at c sound block None e ∙ sym (goes (copy_of-at c sound block None e))
       by_place (Some way) e =
           copy_of-with_way_own c sound block way held (way_below c sound block way e)
-          ∙ found-set_first block (ways_for c block) way held (way_in_ways block way (way_below c sound block way e)) (stays (ap (is_way_of block) (copy_of-at c sound block (Some way) e) ∙ way_holds c sound block way e)) (first_holds c sound block way e)
+          ∙ found-set_first (is_way_of block) (ways_for c block) refl way held (way_in_ways block way (way_below c sound block way e)) (stays (ap (is_way_of block) (copy_of-at c sound block (Some way) e) ∙ way_holds c sound block way e)) (first_holds c sound block way e)
 
   pub copy_of-with_held_other : (block other : Block) (held : Option CachedBlock) → other ≢ block → is_way_of other held ≡ false → copy_of (with_held c block (way_of c block) held) other ≡ copy_of c other
   copy_of-with_held_other block other held differ after = by_place (way_of c block) refl
@@ -57,7 +53,7 @@ module _ (c : Cached) (sound : IsCache c) where
       by_place None e = copy_of-at c sound block None e
       by_place (Some way) e =
           copy_of-with_way_own c sound block way None (way_below c sound block way e)
-          ∙ found-emptied block (ways_for c block) way (way_holds c sound block way e) (λ first second. sound.once first second block)
+          ∙ found-emptied (is_way_of block) (ways_for c block) refl way (way_holds c sound block way e) (λ first second. sound.once first second block)
 
   -- what suits a way of a block's set: what names only the block that the way held
   suits-same : (block : Block) (way : ℕ) (held : Option CachedBlock) → ((x : Block) → is_way_of x held ≡ true → is_way_of x (get_or (ways_for c block) way None) ≡ true) → Suits c (set_of c block) way held
@@ -85,10 +81,10 @@ module _ (c : Cached) (sound : IsCache c) where
   filled_place : (block : Block) (mode : Mode) (line : Line) (way : ℕ) → way_of c block ≡ None → empty_way_of c block ≡ Some way → copy_of (with_way c (set_of c block) way (Some (record { block = block; mode = mode; line = line }))) block ≡ Some (record { block = block; mode = mode; line = line })
   filled_place block mode line way absent e =
       copy_of-with_way_own c sound block way _ (empty_way_below block way e)
-      ∙ found-set_first block (ways_for c block) way _ (way_in_ways block way (empty_way_below block way e)) (is_same_block-self block) (λ j h. no_way block (ways_for c block) j absent)
+      ∙ found-set_first (is_way_of block) (ways_for c block) refl way _ (way_in_ways block way (empty_way_below block way e)) (is_same_block-self block) (λ j h. fails_everywhere (is_way_of block) (ways_for c block) refl j absent)
 
   pub way_of-None : (block : Block) → copy_of c block ≡ None → way_of c block ≡ None
-  way_of-None block h = found-None block (ways_for c block) h
+  way_of-None block h = found-None (is_way_of block) (ways_for c block) refl h
 
   pub copy_of-filled : (block : Block) (mode : Mode) (line : Line) → copy_of c block ≡ None → has_room c block ≡ true → copy_of (filled c block mode line) block ≡ Some (record { block = block; mode = mode; line = line })
   unfolding filled has_room
@@ -117,7 +113,7 @@ module _ (c : Cached) (sound : IsCache c) where
           kept-with_way c sound (set_of c block) way _ (set_below c sound block) (empty_way_below block way e) suits
         where
           suits : Suits c (set_of c block) way (Some (record { block = block; mode = mode; line = line }))
-          suits x there = subst (λ y. (set_of c y ≡ set_of c block) × ((j : ℕ) → is_way_of y (get_or (ways_for c block) j None) ≡ true → j ≡ way)) (same_block block x there) (refl, λ j again. absurd (false≢true (sym (no_way block (ways_for c block) j (way_of-None block absent)) ∙ again)))
+          suits x there = subst (λ y. (set_of c y ≡ set_of c block) × ((j : ℕ) → is_way_of y (get_or (ways_for c block) j None) ≡ true → j ≡ way)) (same_block block x there) (refl, λ j again. absurd (false≢true (sym (fails_everywhere (is_way_of block) (ways_for c block) refl j (way_of-None block absent)) ∙ again)))
 
   -- room in a set
   pub room-emptied_own : (block : Block) (way : ℕ) → way < c.ways → has_room (with_way c (set_of c block) way None) block ≡ true
@@ -166,7 +162,7 @@ module _ (c : Cached) (sound : IsCache c) where
 
   pub copy_of-thrown : (block : Block) (out : CachedBlock) → thrown_out c block ≡ Some out → copy_of c out.block ≡ Some out
   copy_of-thrown block out h =
-      found-at out.block (ways_for c out.block) (next_of c block) (way_in_ways out.block (next_of c block) (next_below block)) (moved (out_in_set block out h)) (λ first second. sound.once first second out.block)
+      found-at (is_way_of out.block) (ways_for c out.block) refl (next_of c block) (way_in_ways out.block (next_of c block) (next_below block)) (moved (out_in_set block out h)) (λ first second. sound.once first second out.block)
       ∙ (ap (λ t. get_or (ways_in c t) (next_of c block) None) (same_set block out h) ∙ (thrown_how block out h).2)
     where
       moved : is_way_of out.block (get_or (ways_for c block) (next_of c block) None) ≡ true → is_way_of out.block (get_or (ways_for c out.block) (next_of c block) None) ≡ true
@@ -176,7 +172,7 @@ module _ (c : Cached) (sound : IsCache c) where
   gone-thrown block out h =
       ap (λ t. copy_of (with_way c t (next_of c block) None) out.block) (sym (same_set block out h))
       ∙ (copy_of-with_way_own c sound out.block (next_of c block) None (next_below block)
-      ∙ found-emptied out.block (ways_for c out.block) (next_of c block) (ap (λ t. is_way_of out.block (get_or (ways_in c t) (next_of c block) None)) (same_set block out h) ∙ out_in_set block out h) (λ first second. sound.once first second out.block))
+      ∙ found-emptied (is_way_of out.block) (ways_for c out.block) refl (next_of c block) (ap (λ t. is_way_of out.block (get_or (ways_in c t) (next_of c block) None)) (same_set block out h) ∙ out_in_set block out h) (λ first second. sound.once first second out.block))
 
   pub others-thrown : (block other : Block) (out : CachedBlock) → thrown_out c block ≡ Some out → other ≢ out.block → copy_of (with_way c (set_of c block) (next_of c block) None) other ≡ copy_of c other
   others-thrown block other out h differ =
@@ -185,7 +181,7 @@ module _ (c : Cached) (sound : IsCache c) where
   -- what is thrown out is another block
   pub other-thrown : (block : Block) (out : CachedBlock) → thrown_out c block ≡ Some out → block ≢ out.block
   other-thrown block out h same =
-      false≢true (sym (no_way block (ways_for c block) (next_of c block) (thrown_how block out h).0) ∙ subst (λ x. is_way_of x (get_or (ways_for c block) (next_of c block) None) ≡ true) (sym same) (out_in_set block out h))
+      false≢true (sym (fails_everywhere (is_way_of block) (ways_for c block) refl (next_of c block) (thrown_how block out h).0) ∙ subst (λ x. is_way_of x (get_or (ways_for c block) (next_of c block) None) ≡ true) (sym same) (out_in_set block out h))
 
   next_kept : (next : List ℕ) (s way : ℕ) → ((t : ℕ) → get_or next t 0 < c.ways) → way < c.ways → (t : ℕ) → get_or (set next s way) t 0 < c.ways
   next_kept next s way before inside t = by_place (cases_eq t s) (cases_lt s (length next))

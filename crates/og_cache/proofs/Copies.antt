@@ -5,9 +5,10 @@ use Rattle.std.proofs.lemmas.List.Quantifiers.{position-Some}
 use Rattle.std.proofs.lemmas.Bool.{cases_eq}
 use Rattle.og_base.specs.declared.Block.{Block}
 use Rattle.og_base.proofs.SameNames.{same_block, other_block}
+use Rattle.og_base.specs.Places.{held_by, found_in, PassesOnce}
 use Rattle.og_cache.specs.declared.CachedBlock.{CachedBlock}
-use Rattle.og_cache.specs.Cache.{Cached, IsCache, set_of, ways_in, ways_for, is_way_of, way_of, held_by, copy_of, with_way}
-use Rattle.og_cache.proofs.Lookups.{found_in, found-set_other}
+use Rattle.og_cache.specs.Cache.{Cached, IsCache, set_of, ways_in, ways_for, is_way_of, way_of, copy_of, with_way}
+use Rattle.og_base.proofs.FoundPlaces.{found-set_other}
 use Rattle.og_cache.proofs.Sets.{part_same, part_other, part_length}
 
 -- a way holds one block at most
@@ -23,8 +24,8 @@ module _ (c : Cached) (sound : IsCache c) where
   ways_length block = part_length c.places c.ways (set_of c block) c.sets sound.has_ways (set_below block) sound.all_places
 
   -- the block's own set
-  pub copy_of-with_way_own : (block : Block) (way : ℕ) (held : Option CachedBlock) → way < c.ways → copy_of (with_way c (set_of c block) way held) block ≡ found_in (set (ways_for c block) way held) block
-  copy_of-with_way_own block way held h = ap (λ ways. found_in ways block) (part_same c.places c.ways (set_of c block) way held h)
+  pub copy_of-with_way_own : (block : Block) (way : ℕ) (held : Option CachedBlock) → way < c.ways → copy_of (with_way c (set_of c block) way held) block ≡ found_in (set (ways_for c block) way held) (is_way_of block)
+  copy_of-with_way_own block way held h = ap (λ ways. found_in ways (is_way_of block)) (part_same c.places c.ways (set_of c block) way held h)
 
   -- a block that the way doesn't hold, before and after
   pub copy_of-with_way_other : (set_ way : ℕ) (held : Option CachedBlock) (other : Block) → way < c.ways → is_way_of other (get_or (ways_in c set_) way None) ≡ false → is_way_of other held ≡ false → copy_of (with_way c set_ way held) other ≡ copy_of c other
@@ -32,11 +33,11 @@ module _ (c : Cached) (sound : IsCache c) where
     where
       by_set : (set_of c other ≡ s) ⊎ (set_of c other ≡ s → ⊥) → copy_of (with_way c s way held) other ≡ copy_of c other
       by_set (inl same) =
-          rw (ap (λ ways. found_in ways other) (part_at same)) (found-set_other other (ways_for c other) way held (rw same before) after)
+          rw (ap (λ ways. found_in ways (is_way_of other)) (part_at same)) (found-set_other (is_way_of other) (ways_for c other) refl way held (rw same before) after)
         where
           part_at : set_of c other ≡ s → ways_in (with_way c s way held) (set_of c other) ≡ set (ways_for c other) way held
           part_at e = rw e (part_same c.places c.ways s way held h)
-      by_set (inr differ) = ap (λ ways. found_in ways other) (part_other c.places c.ways s way (set_of c other) held h differ)
+      by_set (inr differ) = ap (λ ways. found_in ways (is_way_of other)) (part_other c.places c.ways s way (set_of c other) held h differ)
 
   -- what is known of a way that a look-up gives
   pub way_below : (block : Block) (way : ℕ) → way_of c block ≡ Some way → way < c.ways

@@ -1,5 +1,3 @@
-pub mod First
-pub mod Lookups
 pub mod Sets
 pub mod Copies
 pub mod Kept

@@ -5,10 +5,11 @@ use Rattle.std.proofs.lemmas.Bool.{false≢true, cases_lt}
 use Rattle.og_base.specs.declared.Block.{Block}
 use Rattle.og_line.specs.declared.Mode.{Mode}
 use Rattle.og_line.specs.declared.Line.{Line}
+use Rattle.og_base.specs.Places.{held_by, found_in, PassesOnce}
 use Rattle.og_cache.specs.declared.CachedBlock.{CachedBlock}
-use Rattle.og_cache.specs.Cache.{Cached, IsCache, set_of, ways_in, ways_for, is_way_of, way_of, empty_way_of, held_by, copy_of, mode_and_line, look_of, empty_cache, with_held, has_room, filled, in_mode, with_mode, of_line, with_line, without, next_of, thrown_out, after_throwing, reserved}
+use Rattle.og_cache.specs.Cache.{Cached, IsCache, set_of, ways_in, ways_for, is_way_of, way_of, empty_way_of, copy_of, mode_and_line, look_of, empty_cache, with_held, has_room, filled, in_mode, with_mode, of_line, with_line, without, next_of, thrown_out, after_throwing, reserved}
 use Rattle.og_cache.specs.Laws.{NewIsEmpty, FillIsSeen, ModeIsSeen, LineIsSeen, TakeOutIsSeen, ReserveIsSeen}
-use Rattle.og_cache.proofs.First.{position-absent, position-none}
+use Rattle.og_base.proofs.First.{position-absent, position-none}
 use Rattle.og_cache.proofs.Copies.{one_block, copy_of-at, way_below, way_holds}
 use Rattle.og_cache.proofs.Changes.{copy_of-with_held_own, copy_of-with_held_other, copy_of-emptied, kept-with_held, copy_of-filled, copy_of-filled_other, kept-filled, way_of-None, room-emptied_own, room-emptied, room-same, thrown_how, copy_of-thrown, gone-thrown, others-thrown, other-thrown, kept-reserved, next_below, way_in_ways}
 

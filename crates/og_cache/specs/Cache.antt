@@ -3,6 +3,7 @@
 use Rattle.std.specs.Prelude.{◌≡◌, ℕ, ◌+◌, ◌*◌, ◌%◌, ◌<◌, ◌≤◌, Bool, true, false, Option, Some, None, List, take, drop, length, slice_index, slice_index_or, slice_set, position, is_none, is_some, option_map, replicate, if◌then◌else◌}
 use Rattle.og_base.specs.declared.Block.{Block}
 use Rattle.og_base.specs.Names.{is_same_block}
+use Rattle.og_base.specs.Places.{held_by, found_in}
 use Rattle.og_line.specs.declared.Mode.{Mode}
 use Rattle.og_line.specs.declared.Line.{Line}
 use Rattle.og_cache.specs.declared.CachedBlock.{CachedBlock}
@@ -40,14 +41,9 @@ way_of cache block = position (is_way_of block) (ways_for cache block)
 abbrev pub empty_way_of : Cached → Block → Option ℕ
 empty_way_of cache block = position is_none (ways_for cache block)
 
--- what a way holds, if it is a way
-abbrev pub held_by : List (Option CachedBlock) → Option ℕ → Option CachedBlock
-held_by ways None = None
-held_by ways (Some way) = slice_index_or ways way None
-
 -- the block's copy, if it is there
 abbrev pub copy_of : Cached → Block → Option CachedBlock
-copy_of cache block = held_by (ways_for cache block) (way_of cache block)
+copy_of cache block = found_in (ways_for cache block) (is_way_of block)
 
 -- mode and line of a copy
 abbrev pub mode_and_line : Option CachedBlock → Option (Mode × Line)
