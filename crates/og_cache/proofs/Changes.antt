@@ -1,7 +1,7 @@
 -- What a cache has of each block after each kind of change.
 use Rattle.std.proofs.Common.{◌≡◌, ◌≢◌, ℕ, ◌<◌, ◌≤◌, Bool, true, false, cond, Option, Some, None, List, length, get_or, refl, sym, ◌∙◌, ap, subst, arith, is_some, is_none, inl, inr, ◌⊎◌}
 use Rattle.std.proofs.Math.ListN.{set, length-set}
-use Rattle.std.proofs.lemmas.List.{get_or-set_same, get_or-set_other, get_or_past, set_past}
+use Rattle.std.proofs.lemmas.List.{get_or-set_same, get_or-set_other, set_past}
 use Rattle.std.proofs.lemmas.List.Quantifiers.{position-Some}
 use Rattle.std.proofs.lemmas.Bool.{false≢true, cases_eq, cases_lt}
 use Rattle.std.specs.List.{position}
@@ -9,10 +9,9 @@ use Rattle.og_base.specs.declared.Block.{Block}
 use Rattle.og_base.proofs.SameNames.{is_same_block-self, same_block, other_block}
 use Rattle.og_line.specs.declared.Mode.{Mode}
 use Rattle.og_line.specs.declared.Line.{Line}
-use Rattle.og_base.specs.Places.{held_by, found_in, PassesOnce}
 use Rattle.og_cache.specs.declared.CachedBlock.{CachedBlock}
 use Rattle.og_cache.specs.Cache.{Cached, IsCache, set_of, ways_in, ways_for, is_way_of, way_of, empty_way_of, copy_of, with_way, with_held, has_room, filled, next_of, thrown_out, after_throwing, reserved}
-use Rattle.og_base.proofs.First.{position-none, position-set, is_some-position}
+use Rattle.og_base.proofs.First.{position-set, is_some-position}
 use Rattle.og_base.proofs.FoundPlaces.{found-set_first, found-None, found-emptied, found-at, fails_everywhere}
 use Rattle.og_cache.proofs.Sets.{part_same, part_other}
 use Rattle.og_cache.proofs.Copies.{one_block, set_below, ways_length, copy_of-with_way_own, copy_of-with_way_other, way_below, way_holds, first_holds, copy_of-at}

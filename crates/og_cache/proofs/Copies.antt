@@ -5,7 +5,7 @@ use Rattle.std.proofs.lemmas.List.Quantifiers.{position-Some}
 use Rattle.std.proofs.lemmas.Bool.{cases_eq}
 use Rattle.og_base.specs.declared.Block.{Block}
 use Rattle.og_base.proofs.SameNames.{same_block, other_block}
-use Rattle.og_base.specs.Places.{held_by, found_in, PassesOnce}
+use Rattle.og_base.specs.Places.{held_by, found_in}
 use Rattle.og_cache.specs.declared.CachedBlock.{CachedBlock}
 use Rattle.og_cache.specs.Cache.{Cached, IsCache, set_of, ways_in, ways_for, is_way_of, way_of, copy_of, with_way}
 use Rattle.og_base.proofs.FoundPlaces.{found-set_other}

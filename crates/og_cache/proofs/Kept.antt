@@ -4,7 +4,6 @@ use Rattle.std.proofs.Math.ListN.{set, length-set}
 use Rattle.std.proofs.lemmas.List.{get_or-set_same, get_or-set_other}
 use Rattle.std.proofs.lemmas.Bool.{cases_eq}
 use Rattle.og_base.specs.declared.Block.{Block}
-use Rattle.og_base.specs.Places.{held_by, found_in, PassesOnce}
 use Rattle.og_cache.specs.declared.CachedBlock.{CachedBlock}
 use Rattle.og_cache.specs.Cache.{Cached, IsCache, set_of, ways_in, ways_for, is_way_of, with_way}
 use Rattle.og_cache.proofs.Sets.{part_same, part_other, part_length}

@@ -5,11 +5,12 @@ use Rattle.std.proofs.lemmas.Bool.{false≢true, cases_lt}
 use Rattle.og_base.specs.declared.Block.{Block}
 use Rattle.og_line.specs.declared.Mode.{Mode}
 use Rattle.og_line.specs.declared.Line.{Line}
-use Rattle.og_base.specs.Places.{held_by, found_in, PassesOnce}
+use Rattle.og_base.specs.Places.{held_by}
 use Rattle.og_cache.specs.declared.CachedBlock.{CachedBlock}
 use Rattle.og_cache.specs.Cache.{Cached, IsCache, set_of, ways_in, ways_for, is_way_of, way_of, empty_way_of, copy_of, mode_and_line, look_of, empty_cache, with_held, has_room, filled, in_mode, with_mode, of_line, with_line, without, next_of, thrown_out, after_throwing, reserved}
 use Rattle.og_cache.specs.Laws.{NewIsEmpty, FillIsSeen, ModeIsSeen, LineIsSeen, TakeOutIsSeen, ReserveIsSeen}
 use Rattle.og_base.proofs.First.{position-absent, position-none}
+use Rattle.og_base.proofs.FoundPlaces.{found-None}
 use Rattle.og_cache.proofs.Copies.{one_block, copy_of-at, way_below, way_holds}
 use Rattle.og_cache.proofs.Changes.{copy_of-with_held_own, copy_of-with_held_other, copy_of-emptied, kept-with_held, copy_of-filled, copy_of-filled_other, kept-filled, way_of-None, room-emptied_own, room-emptied, room-same, thrown_how, copy_of-thrown, gone-thrown, others-thrown, other-thrown, kept-reserved, next_below, way_in_ways}
 
@@ -195,6 +196,27 @@ module _ (c : Cached) (sound : IsCache c) where
       by_out None e = ap (λ after. has_room after block) (reserve_where block None e) ∙ no_room (has_room c block) refl e
       by_out (Some out) e = ap (λ after. has_room after block) (reserve_where block (Some out) e) ∙ room_thrown block out
 
+-- a block that isn't there stays out
+absent_held : (c : Cached) (block : Block) (held : Option CachedBlock) (place : Option ℕ) → place ≡ None → with_held c block place held ≡ c
+absent_held c block held None e = refl
+absent_held c block held (Some way) e = absurd (cc)
+
+absent_way : (c : Cached) (block : Block) → look_of c block ≡ None → way_of c block ≡ None
+unfolding look_of
+absent_way c block h = found-None (is_way_of block) (ways_for c block) refl (no_copy (copy_of c block) h)
+
+mode_absent : (c : Cached) (block : Block) (mode : Mode) → look_of c block ≡ None → with_mode c block mode ≡ c
+unfolding with_mode
+mode_absent c block mode h = absent_held c block _ (way_of c block) (absent_way c block h)
+
+line_absent : (c : Cached) (block : Block) (line : Line) → look_of c block ≡ None → with_line c block line ≡ c
+unfolding with_line
+line_absent c block line h = absent_held c block _ (way_of c block) (absent_way c block h)
+
+out_absent : (c : Cached) (block : Block) → look_of c block ≡ None → without c block ≡ c
+unfolding without
+out_absent c block h = absent_held c block None (way_of c block) (absent_way c block h)
+
 -- a new cache
 abbrev nothing : Option CachedBlock
 nothing = None
@@ -240,6 +262,7 @@ pub mode_laws : ModeIsSeen
 mode_laws = record {
   own = λ c block mode sound. mode_own c sound block mode;
   others = λ c block other mode sound. mode_others c sound block other mode;
+  absent = mode_absent;
   room = λ c block other mode sound. mode_room c sound block other mode;
   sound = λ c block mode sound. mode_sound c sound block mode;
 }
@@ -248,6 +271,7 @@ pub line_laws : LineIsSeen
 line_laws = record {
   own = λ c block line sound. line_own c sound block line;
   others = λ c block other line sound. line_others c sound block other line;
+  absent = line_absent;
   room = λ c block other line sound. line_room c sound block other line;
   sound = λ c block line sound. line_sound c sound block line;
 }
@@ -256,6 +280,7 @@ pub take_out_laws : TakeOutIsSeen
 take_out_laws = record {
   own = λ c block sound. out_own c sound block;
   others = λ c block other sound. out_others c sound block other;
+  absent = out_absent;
   makes_room = λ c block sound. out_makes_room c sound block;
   room = λ c block other sound. out_room c sound block other;
   sound = λ c block sound. out_sound c sound block;

@@ -21,6 +21,7 @@ pub record FillIsSeen : Type 0 where
 pub record ModeIsSeen : Type 0 where
   pub own : (cache : Cached) (block : Block) (mode : Mode) → IsCache cache → look_of (with_mode cache block mode) block ≡ option_map (λ copy. (mode, copy.1)) (look_of cache block)
   pub others : (cache : Cached) (block other : Block) (mode : Mode) → IsCache cache → other ≢ block → look_of (with_mode cache block mode) other ≡ look_of cache other
+  pub absent : (cache : Cached) (block : Block) (mode : Mode) → look_of cache block ≡ None → with_mode cache block mode ≡ cache
   pub room : (cache : Cached) (block other : Block) (mode : Mode) → IsCache cache → has_room (with_mode cache block mode) other ≡ has_room cache other
   pub sound : (cache : Cached) (block : Block) (mode : Mode) → IsCache cache → IsCache (with_mode cache block mode)
 
@@ -28,6 +29,7 @@ pub record ModeIsSeen : Type 0 where
 pub record LineIsSeen : Type 0 where
   pub own : (cache : Cached) (block : Block) (line : Line) → IsCache cache → look_of (with_line cache block line) block ≡ option_map (λ copy. (copy.0, line)) (look_of cache block)
   pub others : (cache : Cached) (block other : Block) (line : Line) → IsCache cache → other ≢ block → look_of (with_line cache block line) other ≡ look_of cache other
+  pub absent : (cache : Cached) (block : Block) (line : Line) → look_of cache block ≡ None → with_line cache block line ≡ cache
   pub room : (cache : Cached) (block other : Block) (line : Line) → IsCache cache → has_room (with_line cache block line) other ≡ has_room cache other
   pub sound : (cache : Cached) (block : Block) (line : Line) → IsCache cache → IsCache (with_line cache block line)
 
@@ -35,6 +37,7 @@ pub record LineIsSeen : Type 0 where
 pub record TakeOutIsSeen : Type 0 where
   pub own : (cache : Cached) (block : Block) → IsCache cache → look_of (without cache block) block ≡ None
   pub others : (cache : Cached) (block other : Block) → IsCache cache → other ≢ block → look_of (without cache block) other ≡ look_of cache other
+  pub absent : (cache : Cached) (block : Block) → look_of cache block ≡ None → without cache block ≡ cache
   pub makes_room : (cache : Cached) (block : Block) → IsCache cache → IsSome (look_of cache block) → has_room (without cache block) block ≡ true
   pub room : (cache : Cached) (block other : Block) → IsCache cache → has_room cache other ≡ true → has_room (without cache block) other ≡ true
   pub sound : (cache : Cached) (block : Block) → IsCache cache → IsCache (without cache block)
