@@ -1,3 +1,5 @@
 pub mod Groups
+pub mod Names
 pub mod Numbers
+pub mod Places
 pub mod Settings

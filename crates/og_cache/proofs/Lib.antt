@@ -1,0 +1,5 @@
+pub mod Sets
+pub mod Copies
+pub mod Kept
+pub mod Changes
+pub mod Seen

@@ -1,0 +1,10 @@
+use Rattle.std.proofs.Common.{subst, arith}
+use Rattle.std.proofs.lemmas.Grind.{common_steps}
+use Rattle.og_tlb.proofs.Fills.{same_tlb, kept-without_page}
+use Rattle.og_tlb.specs.Tlb.{IsTlb, without_page}
+use Rattle.og_tlb.proofs.Tlb.drop_page.Goals as goal
+
+pub invariant_of-self : goal.invariant_of-self
+unfolding without_page
+invariant_of-self c =
+    same_tlb _ (without_page c.args.self.now c.args.page) (grind (arith, common_steps)) (kept-without_page c.args.self.now (subst IsTlb c.self.view_is c.self.invariant) c.args.page)

@@ -1,0 +1,2 @@
+pub mod Tlb
+pub mod Laws
