@@ -6,7 +6,7 @@ use Rattle.og_runs.specs.declared.MsgId.{MsgId}
 use Rattle.og_runs.specs.declared.Msg.{Msg}
 use Rattle.og_runs.specs.Runs.{same_id, put}
 use Rattle.og_runs.proofs.Placed.{same_id_equal}
-use Rattle.og_fabric.specs.declared.Side.{Side}
+use Rattle.og_fabric.specs.declared.rule.Side.{Side}
 use Rattle.og_fabric.specs.Sides.{Each, times, Place, Sides, sent_in, is_there}
 
 pub each_map : {X : Type 0} → (P Q : X → Type 0) → ((x : X) → P x → Q x) → (xs : List X) → Each P xs → Each Q xs

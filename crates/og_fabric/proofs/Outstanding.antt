@@ -15,7 +15,7 @@ use Rattle.og_runs.proofs.Placed.{same_self, find_without}
 use Rattle.og_runs.proofs.Shown.{DataRun, slice_get_some}
 use Rattle.og_runs.proofs.Views.{ends, sorted_views}
 use Rattle.og_runs.proofs.Stated.{start_shows, clocks_within}
-use Rattle.og_fabric.specs.declared.Side.{Side}
+use Rattle.og_fabric.specs.declared.rule.Side.{Side}
 use Rattle.og_fabric.specs.Sides.{Each, times, Place, in_queue, in_taken, Sides, sent_in, Fits, IsReadyFor, IsKept}
 use Rattle.og_fabric.specs.Sides.Place.{Nowhere, Queue, Hand, Taken}
 use Rattle.og_fabric.specs.Scheme.{IsRunOf, HasRoom, IsReady, takes}

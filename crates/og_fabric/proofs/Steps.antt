@@ -9,9 +9,9 @@ use Rattle.og_runs.specs.declared.MsgId.{MsgId}
 use Rattle.og_runs.specs.declared.Msg.{Msg}
 use Rattle.og_runs.specs.Runs.{Rules, same_id, put}
 use Rattle.og_runs.proofs.Placed.{same_id_equal, same_self}
-use Rattle.og_fabric.specs.declared.Side.{Side}
-use Rattle.og_fabric.specs.declared.Sight.{Sight}
-use Rattle.og_fabric.specs.Sides.{Each, times, hand_list, Place, in_queue, in_hand, in_taken, is_somewhere, is_there, Sides, sent_in, Fits, IsNamed, IsSide, IsKept, sight, OwnsRest, Knows, Holds, sent_more, taken_more, with_hand}
+use Rattle.og_fabric.specs.declared.rule.Side.{Side}
+use Rattle.og_fabric.specs.declared.rule.Sight.{Sight}
+use Rattle.og_fabric.specs.Sides.{Each, times, Place, in_queue, in_hand, in_taken, is_somewhere, is_there, Sides, sent_in, Fits, IsNamed, IsSide, IsKept, sight, OwnsRest, Knows, Holds, sent_more, taken_more, carried_more, with_hand}
 use Rattle.og_fabric.specs.Sides.Place.{Nowhere, Queue, Hand, Taken}
 use Rattle.og_fabric.proofs.Lists.{each_map, each_snoc, times_append, get_snoc, get_end, get_at_end, none_at_end, moved, unseen, eq_self, put_here, put_there, put_all, sent_same, sent_grows}
 
@@ -30,22 +30,39 @@ knows_others {K} s owner a h port v apart k = (each_map (λ (g : Side K). (owner
     rest None e = tt
     rest (Some n) e = λ b le. ((e b le).0, stays b (e b le).0 ∙ (e b le).1)
 
--- a step of a seat: its side becomes h', and the queue's content items'
+-- a step of a pass: its first side becomes h', and the queue's content items'
+pub steps_among : {A K N : Type 0} → (r : Rules A K N) (f : ℕ → A) (actors most : ℕ) (items items' : List (Msg K)) (views : List (Sight K)) (port : ℕ) (h h' : Side K) (hs : List (Side K)) →
+    Each (λ g. nat_eq h.actor g.actor ≡ false) hs → h'.actor ≡ h.actor →
+    get_elem? views port ≡ some (record { rest = None; sides = h ∷ hs }) → (k : Holds r f actors most items views) → ((k.0 h.actor ≡ h) → IsKept r f actors most items' (put k.0 h.actor h')) →
+    Holds r f actors most items' (set views port (record { rest = None; sides = h' ∷ hs }))
+steps_among {A} {K} {N} r f actors most items items' views port h h' hs apart same at k step = (put k.0 h.actor h', k.1, step mine.0.0.1, knows)
+  where
+    mine : Knows k.0 k.1 port (record { rest = None; sides = h ∷ hs })
+    mine = k.3 port (record { rest = None; sides = h ∷ hs }) at
+
+    stay : (gs : List (Side K)) → Each (λ g. nat_eq h.actor g.actor ≡ false) gs → Each (λ g. (k.1 g.actor ≡ port) × (k.0 g.actor ≡ g)) gs → Each (λ g. (k.1 g.actor ≡ port) × (put k.0 h.actor h' g.actor ≡ g)) gs
+    stay [] ne e = tt
+    stay (g ∷ gs) ne e = ((e.0.0, put_there k.0 h.actor h' g.actor ne.0 ∙ e.0.1), stay gs ne.1 e.1)
+
+    knows : (j : ℕ) (u : Sight K) → get_elem? (set views port (record { rest = None; sides = h' ∷ hs })) j ≡ some u → Knows (put k.0 h.actor h') k.1 j u
+    knows j u e = go (at_set views port j (record { rest = None; sides = h' ∷ hs }) u e)
+      where
+        own : k.1 h'.actor ≡ port
+        own = ap k.1 same ∙ mine.0.0.0
+
+        is : put k.0 h.actor h' h'.actor ≡ h'
+        is = ap (λ (b : ℕ). put k.0 h.actor h' b) same ∙ put_here k.0 h.actor h'
+
+        go : ((j ≡ port) × (record { rest = None; sides = h' ∷ hs } ≡ u)) ⊎ ((j ≢ port) × (get_elem? views j ≡ some u)) → Knows (put k.0 h.actor h') k.1 j u
+        go (inl x) = subst (λ (w : Sight K). Knows (put k.0 h.actor h') k.1 j w) x.1
+            (subst (λ (i : ℕ). Knows (put k.0 h.actor h') k.1 i (record { rest = None; sides = h' ∷ hs })) (sym x.0) (((own, is), stay hs apart mine.0.1), tt))
+        go (inr x) = knows_others k.0 k.1 h.actor h' j u (λ owns. x.0 (sym owns ∙ mine.0.0.0)) (k.3 j u x.1)
+
+-- so of a seat, which knows one side
 pub steps : {A K N : Type 0} → (r : Rules A K N) (f : ℕ → A) (actors most : ℕ) (items items' : List (Msg K)) (views : List (Sight K)) (port : ℕ) (h h' : Side K) →
     h'.actor ≡ h.actor →
     get_elem? views port ≡ some (sight h) → (k : Holds r f actors most items views) → ((k.0 h.actor ≡ h) → IsKept r f actors most items' (put k.0 h.actor h')) → Holds r f actors most items' (set views port (sight h'))
-steps {A} {K} {N} r f actors most items items' views port h h' same at k step = (put k.0 h.actor h', k.1, step mine.0.0.1, knows)
-  where
-    mine : Knows k.0 k.1 port (sight h)
-    mine = k.3 port (sight h) at
-
-    knows : (j : ℕ) (u : Sight K) → get_elem? (set views port (sight h')) j ≡ some u → Knows (put k.0 h.actor h') k.1 j u
-    knows j u e = go (at_set views port j (sight h') u e)
-      where
-        go : ((j ≡ port) × (sight h' ≡ u)) ⊎ ((j ≢ port) × (get_elem? views j ≡ some u)) → Knows (put k.0 h.actor h') k.1 j u
-        go (inl x) = subst (λ (w : Sight K). Knows (put k.0 h.actor h') k.1 j w) x.1
-            (((ap k.1 same ∙ (mine.0.0.0 ∙ sym x.0), ap (λ (b : ℕ). put k.0 h.actor h' b) same ∙ put_here k.0 h.actor h'), tt), tt)
-        go (inr x) = knows_others k.0 k.1 h.actor h' j u (λ owns. x.0 (sym owns ∙ mine.0.0.0)) (k.3 j u x.1)
+steps r f actors most items items' views port h h' same at k step = steps_among r f actors most items items' views port h h' [] tt same at k step
 
 -- a side that isn't changed, where another one is and a message moves
 other_side : {K : Type 0} → (s s' : Sides K) (place : MsgId → Place) (i : MsgId) (p : Place) (b : ℕ) (g : Side K) → ((j : MsgId) (m : Msg K) → sent_in s j ≡ Some m → sent_in s' j ≡ Some m) →
@@ -55,7 +72,7 @@ other_side {K} s s' place i p b g grow hand taken k = record {
   named = k.named;
   hand = λ j. k.hand j ∙ unseen (in_hand b) i p place hand j;
   taken = λ j. k.taken j ∙ unseen (in_taken b) i p place taken j;
-  hand_sent = each_map (λ (m : Msg K). sent_in s m.id ≡ Some m) (λ m. sent_in s' m.id ≡ Some m) (λ m e. grow m.id m e) (hand_list g.hand) k.hand_sent;
+  hand_sent = each_map (λ (m : Msg K). sent_in s m.id ≡ Some m) (λ m. sent_in s' m.id ≡ Some m) (λ m e. grow m.id m e) g.hand k.hand_sent;
   taken_sent = each_map (λ (m : Msg K). (sent_in s m.id ≡ Some m) × (m.to ≡ b)) (λ m. (sent_in s' m.id ≡ Some m) × (m.to ≡ b)) (λ m e. (grow m.id m e.0, e.1)) g.taken k.taken_sent;
 }
 
@@ -141,7 +158,7 @@ goes_on {A} {K} {N} r f actors most items items' s h h' i p k is lt sent before 
       named = x.named;
       hand = x.hand;
       taken = x.taken;
-      hand_sent = each_map (λ (m : Msg K). sent_in s m.id ≡ Some m) (λ m. sent_in (put s h.actor h') m.id ≡ Some m) (λ m e. grow m.id m e) (hand_list g.hand) x.hand_sent;
+      hand_sent = each_map (λ (m : Msg K). sent_in s m.id ≡ Some m) (λ m. sent_in (put s h.actor h') m.id ≡ Some m) (λ m e. grow m.id m e) g.hand x.hand_sent;
       taken_sent = each_map (λ (m : Msg K). (sent_in s m.id ≡ Some m) × (m.to ≡ b)) (λ m. (sent_in (put s h.actor h') m.id ≡ Some m) × (m.to ≡ b)) (λ m e. (grow m.id m e.0, e.1)) g.taken x.taken_sent;
     }
 
@@ -175,18 +192,18 @@ take_kept {A} {K} {N} r f actors most x items s h k is lt to fits =
     mine : IsSide s k.place h.actor h
     mine = subst (λ (g : Side K). IsSide s k.place h.actor g) is (k.side h.actor)
 
--- a seat whose hand is empty carries a message that is for another
-pub carry_kept : {A K N : Type 0} → (r : Rules A K N) (f : ℕ → A) (actors most : ℕ) (x : Msg K) (items : List (Msg K)) (s : Sides K) (h : Side K) → IsKept r f actors most (x ∷ items) s → s h.actor ≡ h → h.actor < actors → h.hand ≡ None →
-    IsKept r f actors most items (put s h.actor (with_hand h (Some x)))
-carry_kept {A} {K} {N} r f actors most x items s h k is lt empty =
-    goes_on r f actors most (x ∷ items) items s h (with_hand h (Some x)) x.id p k is lt refl (ap is_somewhere old) refl
+-- a message is carried
+pub carry_kept : {A K N : Type 0} → (r : Rules A K N) (f : ℕ → A) (actors most : ℕ) (x : Msg K) (items : List (Msg K)) (s : Sides K) (h : Side K) → IsKept r f actors most (x ∷ items) s → s h.actor ≡ h → h.actor < actors →
+    IsKept r f actors most items (put s h.actor (carried_more h x))
+carry_kept {A} {K} {N} r f actors most x items s h k is lt =
+    goes_on r f actors most (x ∷ items) items s h (carried_more h x) x.id p k is lt refl (ap is_somewhere old) refl
     (λ b ne. (let ne' : nat_eq b h.actor ≡ false = same_flip h.actor b ne in ap (in_hand b) old ∙ sym (ap (λ (w : Bool). cond w 1 0) ne'), ap (in_taken b) old))
     (record {
       actor = refl;
       named = mine.named;
-      hand = joins (in_hand h.actor) k.place p x [] (ap (λ (w : Bool). cond w 1 0) (eq_self h.actor)) (ap (in_hand h.actor) old) (λ j. sym (ap (λ (o : Option (Msg K)). times j (hand_list o)) empty) ∙ mine.hand j);
+      hand = joins (in_hand h.actor) k.place p x h.hand (ap (λ (w : Bool). cond w 1 0) (eq_self h.actor)) (ap (in_hand h.actor) old) mine.hand;
       taken = λ j. mine.taken j ∙ unseen (in_taken h.actor) x.id p k.place (ap (in_taken h.actor) old) j;
-      hand_sent = (k.queue_sent.0, tt);
+      hand_sent = each_snoc (λ (m : Msg K). sent_in s m.id ≡ Some m) h.hand x mine.hand_sent k.queue_sent.0;
       taken_sent = mine.taken_sent;
     })
     (leaves in_queue k.place p x items refl (ap in_queue old) k.queue)
@@ -213,10 +230,10 @@ in_hand_of a (Hand b) e = at (nat_eq a b) refl e
 in_hand_of a (Taken b) e = absurd (omega (arith, e))
 
 -- a seat puts back what it carries
-pub put_back_kept : {A K N : Type 0} → (r : Rules A K N) (f : ℕ → A) (actors most : ℕ) (x : Msg K) (items : List (Msg K)) (s : Sides K) (h : Side K) → IsKept r f actors most items s → s h.actor ≡ h → h.actor < actors → h.hand ≡ Some x →
-    IsKept r f actors most (items ++ x ∷ []) (put s h.actor (with_hand h None))
+pub put_back_kept : {A K N : Type 0} → (r : Rules A K N) (f : ℕ → A) (actors most : ℕ) (x : Msg K) (items : List (Msg K)) (s : Sides K) (h : Side K) → IsKept r f actors most items s → s h.actor ≡ h → h.actor < actors → h.hand ≡ x ∷ [] →
+    IsKept r f actors most (items ++ x ∷ []) (put s h.actor (with_hand h []))
 put_back_kept {A} {K} {N} r f actors most x items s h k is lt full =
-    goes_on r f actors most items (items ++ x ∷ []) s h (with_hand h None) x.id Queue k is lt refl (ap is_somewhere old) refl
+    goes_on r f actors most items (items ++ x ∷ []) s h (with_hand h []) x.id Queue k is lt refl (ap is_somewhere old) refl
     (λ b ne. (let ne' : nat_eq b h.actor ≡ false = same_flip h.actor b ne in ap (in_hand b) old ∙ ap (λ (w : Bool). cond w 1 0) ne', ap (in_taken b) old))
     (record {
       actor = refl;
@@ -227,14 +244,14 @@ put_back_kept {A} {K} {N} r f actors most x items s h k is lt full =
       taken_sent = mine.taken_sent;
     })
     (joins in_queue k.place Queue x items refl (ap in_queue old) k.queue)
-    (each_snoc (λ (m : Msg K). sent_in s m.id ≡ Some m) items x k.queue_sent (subst (λ (o : Option (Msg K)). Each (λ m. sent_in s m.id ≡ Some m) (hand_list o)) full mine.hand_sent).0)
+    (each_snoc (λ (m : Msg K). sent_in s m.id ≡ Some m) items x k.queue_sent (subst (λ (ms : List (Msg K)). Each (λ m. sent_in s m.id ≡ Some m) ms) full mine.hand_sent).0)
     (subst (λ (g : Side K). Fits r f most h.actor g.sent g.taken) is (k.fits h.actor))
   where
     mine : IsSide s k.place h.actor h
     mine = subst (λ (g : Side K). IsSide s k.place h.actor g) is (k.side h.actor)
 
     hand : (j : MsgId) → times j (x ∷ []) ≡ in_hand h.actor (k.place j)
-    hand j = sym (ap (λ (o : Option (Msg K)). times j (hand_list o)) full) ∙ mine.hand j
+    hand j = sym (ap (λ (ms : List (Msg K)). times j ms) full) ∙ mine.hand j
 
     old : k.place x.id ≡ Hand h.actor
     old = in_hand_of h.actor (k.place x.id) (sym (hand x.id) ∙ times_here x [])
