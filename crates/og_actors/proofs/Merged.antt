@@ -1,0 +1,166 @@
+-- From seats to a run.
+use Rattle.std.proofs.Common.{◌≡◌, ◌≢◌, ℕ, zero, suc, ◌+◌, ◌*◌, ◌<◌, ◌≤◌, Bool, true, false, ◌⊎◌, inl, inr, arith, refl, sym, subst, List, [], ◌∷◌, ◌++◌, length, take, drop, mul-le-mul_right, ap}
+use Rattle.std.proofs.Math.Path.{◌∙◌}
+use Rattle.std.specs.Prelude.{All, map, sum_by}
+use Rattle.std.proofs.lemmas.List.Sums.{sum_by-cons}
+use Rattle.atomic_table.specs.Seated.{TableId}
+use Rattle.og_runs.specs.declared.MsgId.{MsgId}
+use Rattle.og_runs.specs.declared.Msg.{Msg}
+use Rattle.og_runs.specs.declared.Event.{Event}
+use Rattle.og_runs.specs.declared.Log.{Log}
+use Rattle.og_runs.specs.Runs.{Rules, joined, IsSorted}
+use Rattle.og_runs.specs.World.{events_of}
+use Rattle.og_runs.specs.Views.{LocalViews, ConsistentViews, logs_of}
+use Rattle.og_runs.proofs.StatedLogs.{logs_run}
+use Rattle.og_fabric.specs.Gathered.{Closed, views_of, AreLeft}
+use Rattle.og_actors.specs.declared.rounds.Rounds.{Rounds}
+use Rattle.og_actors.specs.declared.rounds.Rounds.TheVariants.{Stopped, Spent, Memory}
+use Rattle.og_actors.specs.Actors.{Playing, closed_of}
+use Rattle.og_actors.specs.Rounds.{AreSeated, AreInTurn, AfterRounds, IsReached, Counted, AreLogs, IsWholeRun, all_whole, made_by, idle_by}
+use Rattle.og_actors.proofs.Turns.{Keeps}
+use Rattle.og_actors.proofs.Counting.{EachKeeps, go_keep, round_keeps, sums}
+
+seated_tables : {A K N : Type 0} → (t : TableId) (f : ℕ → A) (k : ℕ) (ps : List (Playing A K N)) → AreSeated t f k ps → All (λ p. p.table ≡ t) ps
+seated_tables t f k [] h i d lt = absurd (omega (arith, lt))
+seated_tables {A} {K} {N} t f k (p ∷ ps) h zero d lt = ap (λ (q : Playing A K N). q.table) h.0
+seated_tables t f k (p ∷ ps) h (suc i) d lt = seated_tables t f (suc k) ps h.1 i d (omega (arith, lt))
+
+seated_turns : {A K N : Type 0} → (n most : ℕ) (t : TableId) (f : ℕ → A) (k : ℕ) (ps : List (Playing A K N)) → n ≤ most → AreSeated t f k ps → All (λ p. p.made + p.idle + n ≤ most) ps
+seated_turns n most t f k [] le h i d lt = absurd (omega (arith, lt))
+seated_turns {A} {K} {N} n most t f k (p ∷ ps) le h zero d lt = let e : p.made ≡ 0 = ap (λ (q : Playing A K N). q.made) h.0 in let e' : p.idle ≡ 0 = ap (λ (q : Playing A K N). q.idle) h.0 in omega (arith, e, e', le)
+seated_turns n most t f k (p ∷ ps) le h (suc i) d lt = seated_turns n most t f (suc k) ps le h.1 i d (omega (arith, lt))
+
+seated_sums : {A K N : Type 0} → (t : TableId) (f : ℕ → A) (k : ℕ) (ps : List (Playing A K N)) → AreSeated t f k ps → (made_by ps ≡ 0) × (idle_by ps ≡ 0)
+seated_sums t f k [] h = (refl, refl)
+seated_sums {A} {K} {N} t f k (p ∷ ps) h =
+    let r = seated_sums t f (suc k) ps h.1 in
+    let a = r.0 in
+    let b = r.1 in
+    let e : p.made ≡ 0 = ap (λ (q : Playing A K N). q.made) h.0 in
+    let e' : p.idle ≡ 0 = ap (λ (q : Playing A K N). q.idle) h.0 in
+    let m : made_by (p ∷ ps) ≡ p.made + made_by ps = sum_by-cons (λ (z : Playing A K N). z.made) p ps in
+    let i : idle_by (p ∷ ps) ≡ p.idle + idle_by ps = sum_by-cons (λ (z : Playing A K N). z.idle) p ps in
+    (omega (arith, a, e, m), omega (arith, b, e', i))
+
+-- the rounds leave each actor at its place
+still_in_turn : {A K N : Type 0} → (n : ℕ) (t : TableId) (f : ℕ → A) (k : ℕ) (os ps : List (Playing A K N)) → AreSeated t f k os → EachKeeps n os ps → AreInTurn t k ps
+still_in_turn n t f k [] [] h e = tt
+still_in_turn n t f k [] (p ∷ ps) h e = absurd (let l = e.0 in omega (arith, l))
+still_in_turn n t f k (o ∷ os) [] h e = absurd (let l = e.0 in omega (arith, l))
+still_in_turn {A} {K} {N} n t f k (o ∷ os) (p ∷ ps) h e =
+    let g = e.1 0 o (omega arith) in (
+      (g.table ∙ ap (λ (q : Playing A K N). q.table) h.0, g.actor ∙ ap (λ (q : Playing A K N). q.actor) h.0),
+      still_in_turn n t f (suc k) os ps h.1 ((let l = e.0 in omega (arith, l)), λ i d lt. e.1 (suc i) d (omega (arith, lt))),
+    )
+
+-- a vector whose slice was changed
+pub vec_back : {X : Type 0} → (n : ℕ) (new items : List X) → length new ≡ length items → n ≡ length items → take n (new ++ drop (length new) items) ≡ new
+vec_back {X} n new items len e = ap (λ (m : ℕ). take m (new ++ drop (length new) items)) (e ∙ sym len) ∙ go new (drop (length new) items)
+  where
+    go : (xs ys : List X) → take (length xs) (xs ++ ys) ≡ xs
+    go [] ys = refl
+    go (x ∷ xs) ys = ap (λ (l : List X). x ∷ l) (go xs ys)
+
+-- what rounds kept, however they ended
+pub record Kept {A K N : Type 0} (most : ℕ) (ps qs : List (Playing A K N)) : Type 0 where
+  pub turns : ℕ
+  pub within : turns ≤ most
+  pub each : EachKeeps turns ps qs
+
+keeps_none : {A K N : Type 0} → (ps : List (Playing A K N)) → EachKeeps 0 ps ps
+keeps_none ps = (refl, λ i d lt. record { table = refl; actor = refl; count = omega arith; made = omega arith; idle = omega arith })
+
+reached : {A K N : Type 0} → (r : Rules A K N) (stopped : A → Bool) (turns rounds : ℕ) (ps qs : List (Playing A K N)) → IsReached r stopped turns rounds ps qs → Kept (rounds * turns) ps qs
+reached {A} {K} {N} r stopped turns rounds ps qs (inl h) = subst (λ (z : List (Playing A K N)). Kept (rounds * turns) ps z) h.1 (record { turns = 0; within = omega arith; each = keeps_none ps })
+reached {A} {K} {N} r stopped turns rounds ps qs (inr (n, us, lt, go, round)) =
+    let a = go_keep r stopped turns n ps us go in
+    let b = round_keeps r turns us qs round in
+    let m : suc n * turns ≤ rounds * turns = mul-le-mul_right turns lt in
+    let e : suc n * turns ≡ n * turns + turns = grind arith in
+    record {
+      turns = n * turns + turns;
+      within = omega (arith, m, e);
+      each = (
+        b.0 ∙ a.0,
+        λ i d l.
+            let x = a.1 i d l in
+            let y = b.1 i d (let len = a.0 in omega (arith, l, len)) in
+            record {
+              table = y.table ∙ x.table;
+              actor = y.actor ∙ x.actor;
+              count = (let u = x.count in let v = y.count in omega (arith, u, v));
+              made = (let u = x.made in let v = y.made in omega (arith, u, v));
+              idle = (let u = x.idle in let v = y.idle in omega (arith, u, v));
+            },
+      );
+    }
+
+pub kept : {A K N : Type 0} → (r : Rules A K N) (stopped : A → Bool) (turns rounds : ℕ) (end : Rounds) (ps qs : List (Playing A K N)) → AfterRounds r stopped turns rounds end ps qs → Kept (rounds * turns) ps qs
+kept r stopped turns rounds Stopped ps qs h = reached r stopped turns rounds ps qs h.0
+kept r stopped turns rounds (Spent events idle) ps qs h = record { turns = rounds * turns; within = omega arith; each = go_keep r stopped turns rounds ps qs h.all_rounds }
+kept r stopped turns rounds Memory ps qs h = reached r stopped turns rounds ps qs h.0
+
+pub is_whole : {A K N : Type 0} → (r : Rules A K N) (stopped : A → Bool) (turns rounds : ℕ) (end : Rounds) (ps qs : List (Playing A K N)) → end ≢ Memory → AfterRounds r stopped turns rounds end ps qs → all_whole qs ≡ true
+is_whole r stopped turns rounds Stopped ps qs ne h = h.1
+is_whole r stopped turns rounds (Spent events idle) ps qs ne h = h.logs
+is_whole r stopped turns rounds Memory ps qs ne h = absurd (ne refl)
+
+-- what the rounds leave in the vector of actors
+pub record AreBack {A K N : Type 0} (t : TableId) (actors : ℕ) (qs zs : List (Playing A K N)) : Type 0 where
+  pub same : zs ≡ qs
+  pub turn : AreInTurn t 0 zs
+  pub size : length zs ≡ actors
+
+pub back : {A K N : Type 0} → (t : TableId) (f : ℕ → A) (most actors len : ℕ) (os items new : List (Playing A K N)) → os ≡ items → AreSeated t f 0 items → len ≡ length items → length items ≡ actors → Kept most os new → AreBack t actors new (take len (new ++ drop (length new) items))
+back {A} {K} {N} t f most actors len os items new same h e size k =
+    let each : EachKeeps k.turns items new = subst (λ (l : List (Playing A K N)). EachKeeps k.turns l new) same k.each in
+    let v : take len (new ++ drop (length new) items) ≡ new = vec_back len new items each.0 e in
+    record {
+      same = v;
+      turn = subst (λ (l : List (Playing A K N)). AreInTurn t 0 l) (sym v) (still_in_turn k.turns t f 0 items new h each);
+      size = ap (λ (l : List (Playing A K N)). length l) v ∙ (each.0 ∙ size);
+    }
+
+pub tables_at : {A K N : Type 0} → (t : TableId) (f : ℕ → A) (os items : List (Playing A K N)) → os ≡ items → AreSeated t f 0 items → All (λ p. p.table ≡ t) os
+tables_at {A} {K} {N} t f os items e h = subst (λ (l : List (Playing A K N)). All (λ p. p.table ≡ t) l) (sym e) (seated_tables t f 0 items h)
+
+pub turns_at : {A K N : Type 0} → (n most : ℕ) (t : TableId) (f : ℕ → A) (os items : List (Playing A K N)) → n ≤ most → os ≡ items → AreSeated t f 0 items → All (λ p. p.made + p.idle + n ≤ most) os
+turns_at {A} {K} {N} n most t f os items le e h = subst (λ (l : List (Playing A K N)). All (λ p. p.made + p.idle + n ≤ most) l) (sym e) (seated_turns n most t f 0 items le h)
+
+-- the events that were made are those that were counted
+pub counted : {A K N : Type 0} → (r : Rules A K N) (stopped : A → Bool) (turns rounds actors total : ℕ) (t : TableId) (f : ℕ → A) (end : Rounds) (os items qs zs : List (Playing A K N)) → os ≡ items → AreSeated t f 0 items → length items ≡ actors → end ≢ Memory → AfterRounds r stopped turns rounds end os qs → zs ≡ qs → total ≡ made_by zs → Counted (rounds * turns * actors) end total
+counted {A} {K} {N} r stopped turns rounds actors total t f Stopped os items qs zs same h size ne after back is =
+    let k : Kept (rounds * turns) items qs = subst (λ (l : List (Playing A K N)). Kept (rounds * turns) l qs) same (kept r stopped turns rounds Stopped os qs after) in
+    let s = sums k.turns items qs k.each in
+    let z = seated_sums t f 0 items h in
+    let a = s.both in
+    let m = z.0 in
+    let i = z.1 in
+    let n : total ≡ made_by qs = is ∙ ap (λ (l : List (Playing A K N)). made_by l) back in
+    let le : k.turns * length items ≤ rounds * turns * length items = mul-le-mul_right (length items) k.within in
+    let e : rounds * turns * length items ≡ rounds * turns * actors = ap (λ (c : ℕ). rounds * turns * c) size in
+    omega (arith, a, m, i, n, le, e)
+counted {A} {K} {N} r stopped turns rounds actors total t f (Spent events idle) os items qs zs same h size ne after back is =
+    let z = seated_sums t f 0 items h in
+    let m = z.0 in
+    let x : made_by os ≡ made_by items = ap (λ (l : List (Playing A K N)). made_by l) same in
+    let n : total ≡ made_by qs = is ∙ ap (λ (l : List (Playing A K N)). made_by l) back in
+    let y = after.made in
+    (omega (arith, m, n, x, y), after.sum ∙ ap (λ (c : ℕ). rounds * turns * c) (ap (λ (l : List (Playing A K N)). length l) same ∙ size))
+counted r stopped turns rounds actors total t f Memory os items qs zs same h size ne after back is = absurd (ne refl)
+
+views_length : {K N : Type 0} → (xs : List (Closed K N)) → length (views_of xs) ≡ length xs
+views_length [] = refl
+views_length (x ∷ xs) = ap (λ (n : ℕ). suc n) (views_length xs)
+
+pub are_logs : {A K N : Type 0} → (r : Rules A K N) (f : ℕ → A) (actors : ℕ) (xs : List (Closed K N)) (ls : List (Log N)) (left : List (Msg K)) → LocalViews r f 0 (views_of xs) → ConsistentViews (views_of xs) → AreLeft (views_of xs) left → length xs ≡ actors → events_of ls ≡ logs_of (views_of xs) → AreLogs r f actors ls left
+are_logs r f actors xs ls left local consistent flies size same = (views_of xs, views_length xs ∙ size, same, local, consistent, flies)
+
+pub whole_run : {A K N : Type 0} → (r : Rules A K N) (f : ℕ → A) (actors : ℕ) (ls : List (Log N)) (es : List (Event N)) (left : List (Msg K)) → AreLogs r f actors ls left → IsSorted (joined (events_of ls)) es → IsWholeRun r f actors es left
+whole_run {A} {K} {N} r f actors ls es left (vs, size, same, local, consistent, flies) sorted w begin seats =
+    let run = logs_run r f w vs es begin (omega (arith, size, seats)) local consistent (subst (λ (l : List (List (Event N))). IsSorted (joined l) es) same sorted) in
+    (run.0, run.1, λ i. run.2.flight i ∙ sym (flies.0 i))
+
+pub length_closed : {A K N : Type 0} → (ps : List (Playing A K N)) → length (map (λ p. closed_of p) ps) ≡ length ps
+length_closed [] = refl
+length_closed (p ∷ ps) = ap (λ (n : ℕ). suc n) (length_closed ps)
