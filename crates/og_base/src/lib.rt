@@ -1,11 +1,17 @@
 //! The names that every crate of the machine shares: nodes and actors, pages, frames and blocks,
-//! causes and refusals, and the settings of a run with their ranges.
+//! causes and refusals, the settings of a run with their ranges, and the sizes of the machine.
+//!
+//! A machine of up to 64 nodes names each sharer of a block by itself. With more nodes a directory
+//! has a bit for each group of two, as the SGI Origin's coarse vector has (J. Laudon and D.
+//! Lenoski, "The SGI Origin: A ccNUMA Highly Scalable Server", ISCA 1997). [`group_size`] says how
+//! many nodes a group has.
 //!
 //! Nothing of the machine stands below this crate. The names of messages and stamps come from the
 //! laws of runs, which stand below and know nothing of this machine.
 #![tactic(auto)]
 
 ghost use Rattle.std.specs.Prelude.{◌≡◌, ℕ, ◌+◌, ◌*◌, ◌<◌, ◌≤◌};
+ghost use Rattle.og_base.specs.Groups.{group_size as size_of_group};
 
 pub use og_runs::{Choice, MsgId, Stamp, act_stamp, take_stamp};
 use std::alloc::AllocError;
@@ -18,6 +24,27 @@ pub type ActorId = u8;
 
 /// Want of memory.
 pub type NoMemory = AllocError;
+
+/// The most nodes of a machine.
+pub const MOST_NODES: u8 = 128;
+
+/// The most frames of all nodes of a machine together.
+pub const MOST_FRAMES: u32 = 16_384;
+
+/// The bytes of a page, and of a frame.
+pub const PAGE_BYTES: u64 = 4_096;
+
+/// The bytes of a block.
+pub const BLOCK_BYTES: u64 = 128;
+
+/// The blocks of a page, and of a frame.
+pub const PAGE_BLOCKS: u8 = 32;
+
+/// The address of the first hart's stack page.
+pub const FIRST_STACK: u64 = 0x7000_0000;
+
+/// The bytes from one hart's stack page to the next hart's. The page between them isn't mapped.
+pub const STACK_STEP: u64 = 0x2000;
 
 /// A page of the address space: an address divided by 4,096.
 #[derive(Clone, Copy, PartialEq, Eq, PartialOrd, Ord, Debug)]
@@ -98,9 +125,9 @@ pub enum NotEnabled {
 /// The settings of a run, each in its range.
 #[derive(Clone, Copy, PartialEq, Eq, Debug)]
 pub struct Settings {
-    /// Nodes: 1 to 16.
+    /// Nodes: 1 to 128.
     pub nodes: u8,
-    /// Frames of each node: 2 to 1,024.
+    /// Frames of each node: 2 to 1,024, and at most 16,384 of all nodes together.
     pub frames: u16,
     /// Sets of each cache: 1 to 1,024.
     pub sets: u16,
@@ -119,8 +146,9 @@ pub struct Settings {
     /// The sum of a frame's counts at which they are reset: 1 to 1,000,000.
     pub reset: u32,
 
-    ghost nodes_in_range: { (1 ≤ nodes) × (nodes ≤ 16) },
+    ghost nodes_in_range: { (1 ≤ nodes) × (nodes ≤ 128) },
     ghost frames_in_range: { (2 ≤ frames) × (frames ≤ 1024) },
+    ghost all_frames_in_range: { nodes * frames ≤ 16384 },
     ghost sets_in_range: { (1 ≤ sets) × (sets ≤ 1024) },
     ghost ways_in_range: { (1 ≤ ways) × (ways ≤ 8) },
     ghost tlb_in_range: { (1 ≤ tlb) × (tlb ≤ 64) },
@@ -131,9 +159,17 @@ pub struct Settings {
     ghost reset_in_range: { (1 ≤ reset) × (reset ≤ 1000000) },
 }
 
-/// How many messages may be in flight at once.
+/// How many nodes a group of sharers has, in a machine of so many nodes.
+pub fn group_size(nodes: u8) -> u8
+    ensures { result ≡ size_of_group nodes }
+{
+    if nodes <= 64 { 1 } else { 2 }
+}
+
+/// How many messages may be in flight at once: at most 557,953.
 pub fn room(settings: &Settings) -> u64
-    ensures { result ≡ 33 * settings.now.frames * settings.now.nodes + settings.now.nodes * settings.now.nodes + 7 * settings.now.nodes + 1 }
+    ensures bounded { result ≤ 557953 }
+    ensures value { result ≡ 33 * settings.now.frames * settings.now.nodes + settings.now.nodes * settings.now.nodes + 7 * settings.now.nodes + 1 }
 {
     let frames = u64::from(settings.frames);
     let nodes = u64::from(settings.nodes);

@@ -3,7 +3,7 @@
 --   simulate NAME                 NAME doesn't begin with '-', and may be empty
 --   then, in any order and each at most once,
 --   --raw
---   --nodes D                     1 to 16, else 1
+--   --nodes D                     1 to 128, else 1
 --   --events D                    0 to 4,000,000, else 1,000,000
 --   --instructions D              0 to 1,000,000, else 1,000,000
 --
@@ -51,7 +51,7 @@ choose_raw c = if c.raw then None else Some (record c { raw = true })
 -- the choices after an option that takes a number, and its value
 abbrev pub choose_number : Choices → List ℕ → List ℕ → Option Choices
 choose_number c option value =
-    if bytes_eq option (codes "--nodes") then option_map (λ n. record c { nodes = Some n }) (first_number c.nodes 1 16 value)
+    if bytes_eq option (codes "--nodes") then option_map (λ n. record c { nodes = Some n }) (first_number c.nodes 1 128 value)
     else if bytes_eq option (codes "--events") then option_map (λ n. record c { events = Some n }) (first_number c.events 0 4000000 value)
     else if bytes_eq option (codes "--instructions") then option_map (λ n. record c { instructions = Some n }) (first_number c.instructions 0 1000000 value)
     else None
@@ -69,7 +69,7 @@ options_of c (w ∷ v ∷ ws) =
 
 -- the numbers that were chosen are in their ranges
 abbrev pub AreInRange : Choices → Type 0
-AreInRange c = IfSome c.nodes (λ n. (1 ≤ n) × (n ≤ 16)) × IfSome c.events (λ n. n ≤ 4000000) × IfSome c.instructions (λ n. n ≤ 1000000)
+AreInRange c = IfSome c.nodes (λ n. (1 ≤ n) × (n ≤ 128)) × IfSome c.events (λ n. n ≤ 4000000) × IfSome c.instructions (λ n. n ≤ 1000000)
 
 -- ------------------------------------------------------------------------------ the whole line
 

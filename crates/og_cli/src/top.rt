@@ -83,7 +83,7 @@ fn run_bytes<K: Sink>(
 
 /// Does what the words ask for.
 fn perform<F: Shelf, K: Sink>(alloc: Global, job: &Job, shelf: &mut F, out: &mut K) -> Exit
-    requires nodes { (1 ≤ job.now.nodes) × (job.now.nodes ≤ 16) }
+    requires nodes { (1 ≤ job.now.nodes) × (job.now.nodes ≤ 128) }
     requires instructions { job.now.instructions ≤ 1000000 }
     ensures { JobEnds (job_seen job.now) (F.seen shelf.old) (F.seen shelf.new) (K.seen out.old) (K.seen out.new) result }
 {
@@ -101,7 +101,7 @@ fn perform<F: Shelf, K: Sink>(alloc: Global, job: &Job, shelf: &mut F, out: &mut
 
 /// The settings of a run: those that no word changes yet have their defaults.
 fn settings(nodes: u8, instructions: u32) -> Settings
-    requires nodes { (1 ≤ nodes) × (nodes ≤ 16) }
+    requires nodes { (1 ≤ nodes) × (nodes ≤ 128) }
     requires instructions { instructions ≤ 1000000 }
     ensures nodes { result.nodes ≡ nodes }
     ensures frames { result.frames ≡ default_frames }

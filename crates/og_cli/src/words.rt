@@ -18,7 +18,7 @@ pub struct Job {
     pub name: String,
     /// Whether the file is a raw image.
     pub raw: bool,
-    /// How many nodes the machine has, 1 to 16.
+    /// How many nodes the machine has, 1 to 128.
     pub nodes: u8,
     /// The most events of the run, at most 4,000,000.
     pub events: u32,
@@ -111,7 +111,7 @@ fn choose_number(choices: Choices, option: &str, value: &str) -> Option<Choices>
 {
     let mut after = choices;
     if option == "--nodes" {
-        after.nodes = Some(first_number(choices.nodes, 1, 16, value)?);
+        after.nodes = Some(first_number(choices.nodes, 1, 128, value)?);
     } else if option == "--events" {
         after.events = Some(first_number(choices.events, 0, 4_000_000, value)?);
     } else if option == "--instructions" {
@@ -164,7 +164,7 @@ fn read_line(words: &[String]) -> Option<(&str, Choices)>
 fn job_from(name: String, choices: Choices) -> Job
     requires { AreInRange choices }
     ensures value { job_seen result ≡ job_with (string_bytes name) choices }
-    ensures in_range { (1 ≤ result.nodes) × (result.nodes ≤ 16) × (result.events ≤ 4000000) × (result.instructions ≤ 1000000) }
+    ensures in_range { (1 ≤ result.nodes) × (result.nodes ≤ 128) × (result.events ≤ 4000000) × (result.instructions ≤ 1000000) }
 {
     Job {
         name,
@@ -179,7 +179,7 @@ fn job_from(name: String, choices: Choices) -> Job
 pub fn read_words(alloc: Global, words: &[String]) -> Result<Job, WordsFault>
     ensures words { result ≡ Err WordsFault.Words ↔ (job_of (texts words.now) ≡ None) }
     ensures job { IfOk result (λ job. job_of (texts words.now) ≡ Some (job_seen job)) }
-    ensures in_range { IfOk result (λ job. (1 ≤ job.nodes) × (job.nodes ≤ 16) × (job.events ≤ 4000000) × (job.instructions ≤ 1000000)) }
+    ensures in_range { IfOk result (λ job. (1 ≤ job.nodes) × (job.nodes ≤ 128) × (job.events ≤ 4000000) × (job.instructions ≤ 1000000)) }
 {
     let Some((name, choices)) = read_line(words) else {
         return Err(WordsFault::Words);

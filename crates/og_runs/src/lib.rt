@@ -41,7 +41,7 @@ pub enum Choice {
 }
 
 /// A message before it is sent: its receiver and its body.
-#[derive(Clone, Copy)]
+#[derive(Clone, Copy, Default)]
 pub struct Letter<K> {
     pub to: u8,
     pub kind: K,

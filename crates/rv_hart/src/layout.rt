@@ -36,7 +36,7 @@ impl Model for Layout {
 
     ghost view = { λ l. record { nodes = l.nodes; pages = l.pages.items } };
 
-    ghost invariant = { λ l. record { some : 1 ≤ l.nodes; few : l.nodes ≤ 16; rising : IsStrictlyIncreasing l.pages.items; room : length l.pages.items ≤ l.nodes * 1024; low : (k : ℕ) → k < length l.pages.items → slice_index l.pages.items k < 2 ^ 20 } };
+    ghost invariant = { λ l. record { some : 1 ≤ l.nodes; few : l.nodes ≤ 128; rising : IsStrictlyIncreasing l.pages.items; room : length l.pages.items ≤ l.nodes * 1024; low : (k : ℕ) → k < length l.pages.items → slice_index l.pages.items k < 2 ^ 20 } };
 }
 
 impl Layout {

@@ -24,7 +24,7 @@ fn words_are_read_or_refused(rt: HostRuntime) -> Result<(), Fail> {
     let table = [
         ("simulate a.elf", "a.elf false 1 1000000 1000000"),
         ("simulate a.bin --raw", "a.bin true 1 1000000 1000000"),
-        ("simulate  --nodes 16", " false 16 1000000 1000000"),
+        ("simulate  --nodes 128", " false 128 1000000 1000000"),
         (
             "simulate a --instructions 0 --raw --events 4000000 --nodes 1",
             "a true 1 4000000 0",
@@ -47,7 +47,7 @@ fn words_are_read_or_refused(rt: HostRuntime) -> Result<(), Fail> {
         ("simulate a --nodes=2", "Words"),
         ("simulate a --nodes --raw", "Words"),
         ("simulate a --nodes 0", "Words"),
-        ("simulate a --nodes 17", "Words"),
+        ("simulate a --nodes 129", "Words"),
         ("simulate a --nodes 02", "Words"),
         ("simulate a --nodes +2", "Words"),
         ("simulate a --nodes 2x", "Words"),

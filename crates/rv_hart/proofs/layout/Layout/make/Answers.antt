@@ -6,7 +6,7 @@ use Rattle.rv_hart.proofs.layout.Layout.make.Goals as goal
 
 pub invariant_of-result : goal.invariant_of-result
 invariant_of-result c =
-    let few : c.args.image.now.nodes ≤ 16 = let same : c.args.settings.now.nodes ≡ c.args.image.now.nodes = c.requires in let most : c.args.settings.now.nodes ≤ 16 = c.args.settings.now.nodes_in_range.1 in omega arith in
+    let few : c.args.image.now.nodes ≤ 128 = let same : c.args.settings.now.nodes ≡ c.args.image.now.nodes = c.requires in let most : c.args.settings.now.nodes ≤ 128 = c.args.settings.now.nodes_in_range.1 in omega arith in
     record {
       some = c.args.settings.now.nodes_in_range.0;
       few = c.args.settings.now.nodes_in_range.1;

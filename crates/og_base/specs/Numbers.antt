@@ -1,0 +1,7 @@
+-- Numbers in a row.
+use Rattle.std.specs.Prelude.{ℕ, zero, suc, List, [], ◌∷◌, ◌++◌}
+
+-- the numbers below n, rising
+unfoldable pub below : ℕ → List ℕ
+below zero = []
+below (suc n) = below n ++ n ∷ []
