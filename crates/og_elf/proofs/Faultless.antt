@@ -1,5 +1,5 @@
 -- A file without a fault can be loaded.
-use Rattle.std.proofs.Common.{◌≡◌, ℕ, zero, suc, ◌+◌, ◌-◌, ◌*◌, ◌%◌, ◌<◌, ◌≤◌, ◌&&◌, ◌||◌, length, List, [], ◌∷◌, arith, refl, sym, cond, true, false, Bool, not, get_or, nat_lt, nat_le, nat_eq, take, drop, map, Option, None, Some, ap, ap₂}
+use Rattle.std.proofs.Common.{◌≡◌, ℕ, zero, suc, ◌+◌, ◌%◌, ◌<◌, ◌≤◌, ◌&&◌, ◌||◌, length, List, [], ◌∷◌, arith, refl, cond, true, false, Bool, not, get_or, nat_lt, nat_eq, take, drop, map, Option, None, Some, ap}
 use Rattle.std.specs.List.{list_any, find, filter, All}
 use Rattle.std.specs.Option.{option_or}
 use Rattle.std.proofs.Math.Path.{◌∙◌}
@@ -12,10 +12,9 @@ use Rattle.og_elf.specs.declared.header.Header.{Header}
 use Rattle.og_elf.specs.declared.fault.ElfCause.{ElfCause}
 use Rattle.og_elf.specs.declared.fault.ElfCause.TheVariants.{SegmentOut, Overlap, WritableText, NoEntry, TooLarge}
 use Rattle.og_elf.specs.declared.fault.ElfFault.{ElfFault}
-use Rattle.og_elf.specs.declared.fault.ElfFault.TheVariants.{Bad}
 use Rattle.og_elf.specs.Span.{IsWithin}
 use Rattle.og_elf.specs.Segment.{IsPlaced, IsLoadable, are_apart, span_of, is_text, is_entry}
-use Rattle.og_elf.specs.Elf.{loads_of, loads_fault, headers_from, headers_at, header_count, is_loadable, is_out, is_writable, is_runnable, is_writable_text, is_text_header, has_entry, entry_of, segment_of, segments_of, overlapping, passing, span_of_header, at_header, fault_if}
+use Rattle.og_elf.specs.Elf.{loads_of, loads_fault, headers_from, headers_at, header_count, is_loadable, is_out, is_writable_text, is_text_header, has_entry, entry_of, segment_of, segments_of, overlapping, passing, span_of_header, at_header, fault_if}
 use Rattle.og_elf.proofs.Order.{apart_all}
 
 pub none_passes : (p : Header → Bool) (xs : List Header) → find p xs ≡ None → All (λ x. p x ≡ false) xs

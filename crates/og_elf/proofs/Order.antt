@@ -1,5 +1,5 @@
 -- The first header that overlaps an earlier one, by how many headers are apart.
-use Rattle.std.proofs.Common.{◌≡◌, ℕ, zero, suc, ◌+◌, ◌<◌, ◌||◌, length, List, [], ◌∷◌, ◌++◌, arith, refl, sym, cond, true, false, Bool, get_or, take, map, Option, None, Some, add-one}
+use Rattle.std.proofs.Common.{◌≡◌, ℕ, zero, suc, ◌+◌, ◌<◌, ◌||◌, length, List, [], ◌∷◌, ◌++◌, arith, refl, sym, cond, true, false, Bool, get_or, take, map, None, Some, add-one}
 use Rattle.std.specs.List.{list_any}
 use Rattle.std.proofs.Math.Path.{◌∙◌}
 use Rattle.std.proofs.lemmas.List.{append-nil}
@@ -9,7 +9,7 @@ use Rattle.og_elf.specs.declared.segment.Span.{Span}
 use Rattle.og_elf.specs.declared.header.Header.{Header}
 use Rattle.og_elf.specs.Segment.{overlaps, are_apart}
 use Rattle.og_elf.specs.Elf.{overlapping, span_of_header}
-use Rattle.og_elf.proofs.Apart.{apart_permuted, first_of, rest_of, apart_cons}
+use Rattle.og_elf.proofs.Apart.{apart_permuted, first_of, apart_cons}
 
 abbrev spans : List Header → List Span
 spans hs = map span_of_header hs

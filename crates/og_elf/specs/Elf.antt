@@ -1,5 +1,5 @@
 -- ELF-64 files of a RISC-V program: their program headers, their first fault, and the segments.
-use Rattle.std.specs.Prelude.{ℕ, zero, suc, ◌+◌, ◌*◌, ◌%◌, ◌&&◌, ◌||◌, Bool, true, false, not, nat_lt, nat_eq, List, [], ◌∷◌, length, drop, take, cond, map, bit_and}
+use Rattle.std.specs.Prelude.{ℕ, zero, suc, ◌+◌, ◌*◌, ◌%◌, ◌&&◌, ◌||◌, Bool, not, nat_lt, nat_eq, List, [], ◌∷◌, length, drop, take, cond, map, bit_and}
 use Rattle.std.proofs.Common.{Option, None, Some}
 use Rattle.std.specs.List.{list_any, find, filter}
 use Rattle.std.specs.Option.{option_map, option_or}

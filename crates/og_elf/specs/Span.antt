@@ -1,5 +1,5 @@
 -- Spans that lie where programs may.
-use Rattle.std.specs.Prelude.{ℕ, ◌<◌, ◌≤◌, ◌+◌}
+use Rattle.std.specs.Prelude.{◌<◌, ◌≤◌, ◌+◌}
 use Rattle.og_elf.specs.declared.segment.Span.{Span}
 
 -- it has a byte, and ends below the stacks

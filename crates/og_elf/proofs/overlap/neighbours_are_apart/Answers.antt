@@ -1,9 +1,7 @@
-use Rattle.std.proofs.Common.{◌≡◌, ◌<◌, ◌≤◌, ◌+◌, ◌-◌, true, false, arith, sym, length, get_or}
-use Rattle.std.specs.List.{AllAdjacentBelow}
+use Rattle.std.proofs.Common.{◌-◌, false, arith, sym}
 use Rattle.std.proofs.Math.Path.{◌∙◌}
 use Rattle.std.proofs.lemmas.Grind.{common_steps}
 use Rattle.og_elf.specs.declared.segment.Span.{Span}
-use Rattle.og_elf.specs.Segment.{overlaps}
 use Rattle.og_elf.proofs.Apart.{neighbours, not_apart}
 use Rattle.og_elf.proofs.overlap.neighbours_are_apart.Goals as goal
 

@@ -1,4 +1,4 @@
-use Rattle.std.proofs.Common.{◌≡◌, arith}
+use Rattle.std.proofs.Common.{arith}
 use Rattle.og_elf.proofs.Faultless.{none_passes}
 use Rattle.og_elf.proofs.read.elf_of.Goals as goal
 

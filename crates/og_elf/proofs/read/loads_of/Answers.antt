@@ -1,9 +1,9 @@
-use Rattle.std.proofs.Common.{◌≡◌, ◌+◌, ◌-◌, ◌*◌, ◌≤◌, ◌<◌, ◌++◌, [], ◌∷◌, ℕ, zero, suc, List, Bool, true, false, cond, arith, refl, subst, sym, ap, ap₂, append_assoc, Vec, Global}
+use Rattle.std.proofs.Common.{◌≡◌, ◌+◌, ◌-◌, ◌*◌, ◌<◌, ◌++◌, [], ◌∷◌, ℕ, suc, List, Bool, true, false, cond, arith, refl, subst, sym, ap, ap₂, append_assoc, Vec, Global}
 use Rattle.std.specs.List.{filter}
 use Rattle.std.proofs.Math.Path.{◌∙◌}
 use Rattle.std.proofs.lemmas.List.{append-nil}
 use Rattle.og_elf.specs.declared.header.Header.{Header}
-use Rattle.og_elf.specs.Elf.{loads_of, headers_from, header_at, is_loadable, headers_at, header_count}
+use Rattle.og_elf.specs.Elf.{loads_of, headers_from, header_at, is_loadable}
 use Rattle.og_elf.proofs.read.loads_of.Goals as goal
 use Rattle.og_elf.proofs.read.loads_of.Goals.{then-is_loadable+in_ok-push, else-is_loadable}
 
