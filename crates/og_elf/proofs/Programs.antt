@@ -19,10 +19,10 @@ record Bounds (size t d : ℕ) : Type 0 where
 bounds_of : (size t d : ℕ) → (nat_lt size 4 || nat_eq t 0 || not (nat_eq (t % 4) 0) || nat_lt 983040 t || nat_lt size (4 + t) || nat_lt 16777216 d) ≡ false → Bounds size t d
 bounds_of size t d h = record { some = grind (arith, nat_tests); whole = grind (arith, nat_tests); text = grind (arith, nat_tests); inside = grind (arith, nat_tests); data_fits = grind (arith, nat_tests) }
 
-abbrev text_of : ℕ → List ℕ → Segment
+abbrev pub text_of : ℕ → List ℕ → Segment
 text_of t text = record { addr = 65536; size = t; bytes = text; writable = false; runnable = true }
 
-abbrev data_of : ℕ → List ℕ → Segment
+abbrev pub data_of : ℕ → List ℕ → Segment
 data_of n bytes = record { addr = 1048576; size = n; bytes = bytes; writable = true; runnable = false }
 
 apart_of : (t n : ℕ) (text bytes : List ℕ) → 0 < t → t ≤ 983040 → overlaps (span_of (text_of t text)) (span_of (data_of n bytes)) ≡ false
@@ -60,6 +60,10 @@ front_fits t xs = grind (arith, common_steps)
 
 rest_fits : (k d n : ℕ) (file : List ℕ) → d ≡ length file - k → d ≤ n → length (drop k file) ≤ n
 rest_fits k d n file is le = grind (arith, common_steps)
+
+-- text and data of any such sizes can be loaded
+pub pair_loadable : (t n : ℕ) (text bytes : List ℕ) → 0 < t → t % 4 ≡ 0 → t ≤ 983040 → length text ≤ t → length bytes ≤ n → 0 < n → n ≤ 16777216 → IsLoadable 65536 (text_of t text ∷ data_of n bytes ∷ [])
+pair_loadable t n text bytes some whole most ht hb more limit = loadable (4 + t) t 0 n text bytes (record { some = some; whole = whole; text = most; inside = omega arith; data_fits = omega arith }) ht hb more limit
 
 pub raw_loadable : (file : List ℕ) → is_raw_out file ≡ false → IsLoadable 65536 (text_segment file ∷ data_segment file ∷ [])
 raw_loadable file h =
