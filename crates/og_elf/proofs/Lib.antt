@@ -1,0 +1,4 @@
+pub mod Apart
+pub mod Faultless
+pub mod Order
+pub mod Programs

@@ -1,0 +1,4 @@
+pub mod Span
+pub mod Segment
+pub mod Elf
+pub mod Raw
