@@ -52,7 +52,7 @@ impl Model for Cache {
     ghost invariant = { λ c. IsCache (record { sets = c.sets; ways = c.ways; places = c.places.items; next = c.next.items }) };
 }
 
-// Whether a way holds the block.
+/// Whether a way holds the block.
 fn is_way_of(way: &Option<CachedBlock>, block: Block) -> bool
     ensures { result ≡ way_holds block way.now }
 {
@@ -200,7 +200,7 @@ impl Cache {
         copy.map(|copy| (copy.mode, copy.line))
     }
 
-    // The set of a block.
+    /// The set of a block.
     fn set_of(&self, block: Block) -> usize
         ensures value { result ≡ set_of self.now block }
         ensures inside { result < self.now.sets }
@@ -209,7 +209,7 @@ impl Cache {
         (number % u32::from(self.sets)) as usize
     }
 
-    // The number of the block's first way among all ways.
+    /// The number of the block's first way among all ways.
     fn first_way(&self, block: Block) -> usize
         ensures value { result ≡ set_of self.now block * self.now.ways }
         ensures inside { result + self.now.ways ≤ self.now.sets * self.now.ways }
@@ -218,7 +218,7 @@ impl Cache {
         self.set_of(block) * usize::from(self.ways)
     }
 
-    // The ways that may hold the block.
+    /// The ways that may hold the block.
     fn ways_for(&self, block: Block) -> &[Option<CachedBlock>]
         ensures value { result.now ≡ ways_for self.now block }
         ensures sound { IsCache self.now }
@@ -228,7 +228,7 @@ impl Cache {
         &self.places[first..first + ways]
     }
 
-    // The block's way.
+    /// The block's way.
     fn way_of(&self, block: Block) -> Option<usize>
         ensures value { result ≡ way_of self.now block }
         ensures sound { IsCache self.now }
@@ -238,7 +238,7 @@ impl Cache {
             .position(|way| is_way_of(way, block))
     }
 
-    // The lowest empty way of the block's set.
+    /// The lowest empty way of the block's set.
     fn empty_way_of(&self, block: Block) -> Option<usize>
         ensures value { result ≡ empty_way_of self.now block }
         ensures sound { IsCache self.now }
@@ -246,7 +246,7 @@ impl Cache {
         self.ways_for(block).iter().position(|way| way.is_none())
     }
 
-    // The block's copy.
+    /// The block's copy.
     fn copy_of(&self, block: Block) -> Option<&CachedBlock>
         ensures value { option_copied result ≡ copy_of self.now block }
         ensures sound { IsCache self.now }
@@ -267,7 +267,7 @@ impl Cache {
         self.ways_for(block)[usize::from(next)].as_ref()
     }
 
-    // Puts this into a way of the block's set.
+    /// Puts this into a way of the block's set.
     fn put(&mut self, block: Block, way: usize, held: Option<CachedBlock>)
         requires inside { way < self.old.ways }
         requires kept { IsCache (with_way self.old (set_of self.old block) way held) }

@@ -9,9 +9,9 @@ ghost use Rattle.og_cli.specs.Exit.{EndsWithStatus};
 ghost use Rattle.og_io.specs.Outside.{texts};
 ghost use Rattle.og_cli.specs.Words.{job_of};
 
+use crate::top::origin_alone;
 use og_io::real::{FileShelf, StreamSink};
 use og_io::{Shelf, Sink};
-use crate::top::origin_alone;
 use std::alloc::Global;
 use std::env;
 

@@ -7,8 +7,8 @@ ghost use Rattle.og_cli.specs.Text.{hex, hex_digit, hex_digits, page_word, frame
 
 use itoa::Buffer;
 use og_base::{Cause, Frame, NoMemory, NodeId, Reason, VPage};
-use og_msg::Note;
 use og_line::{Access, AtomicOp};
+use og_msg::Note;
 use og_runs::{Choice, Event, Stamp};
 use std::alloc::Global;
 

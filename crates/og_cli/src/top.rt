@@ -12,13 +12,13 @@ ghost use Rattle.og_cli.specs.Exit.{fault_text, refused_of, default_settings, is
 ghost use Rattle.og_cli.specs.Words.{job_seen, job_of};
 
 use crate::exit::{Exit, ImageFault};
-use og_io::{Shelf, ShelfFault, Sink, SinkFault, write_all, write_parts};
 use crate::simulate::{Simulated, simulate};
 use crate::text::write_text;
 use crate::words::{Job, WordsFault, read_words};
 use itoa::Buffer;
 use og_base::Settings;
 use og_core::machine::Machine;
+use og_io::{Shelf, ShelfFault, Sink, SinkFault, write_all, write_parts};
 use rv_hart::image::Image;
 use rv_hart::layout::LayoutFault;
 use rv_hart::raw::{RawFault, read_raw};

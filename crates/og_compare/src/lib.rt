@@ -9,9 +9,9 @@
 ghost use Rattle.std.specs.Prelude.{◌≡◌, ◌≢◌, ◌↔◌};
 
 use og_cli::exit::Exit;
+use og_cli::top::origin_alone;
 use og_io::memory::MemorySink;
 use og_io::real::FileShelf;
-use og_cli::top::origin_alone;
 use std::alloc::Global;
 use std::{env, fmt, fs, io};
 

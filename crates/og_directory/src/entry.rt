@@ -67,7 +67,7 @@ impl Model for Entry {
     ghost inverse_ok = { λ e packed. ap₂ (λ h s. record { head = h; set = s }) packed.head_is packed.set_is };
 }
 
-// A node's number as a field of the head.
+/// A node's number as a field of the head.
 fn field(node: NodeId) -> u64
     ensures value { result ≡ node }
     ensures fits { result < 256 }
@@ -75,14 +75,14 @@ fn field(node: NodeId) -> u64
     u64::from(node)
 }
 
-// A truth value as a field of the head.
+/// A truth value as a field of the head.
 fn flag(set: bool) -> u64
     ensures { result ≡ (if set then 1 else 0) }
 {
     u64::from(set)
 }
 
-// The head with these fields.
+/// The head with these fields.
 fn pack(number: u64, owner: u64, requester: u64, returned: u64) -> u64
     requires number { number < 8 }
     requires owner { owner < 256 }
@@ -93,7 +93,7 @@ fn pack(number: u64, owner: u64, requester: u64, returned: u64) -> u64
     returned << 24 | requester << 16 | owner << 8 | number
 }
 
-// The head of an entry of this state.
+/// The head of an entry of this state.
 fn head_word(state: &State) -> u64
     ensures value { result ≡ head_of state.now }
     ensures fits { FieldsFit state.now }
@@ -113,7 +113,7 @@ fn head_word(state: &State) -> u64
     }
 }
 
-// The set of an entry of this state.
+/// The set of an entry of this state.
 fn set_part(state: &State) -> Sharers
     ensures { result ≡ set_of state.now }
 {
@@ -179,7 +179,7 @@ impl Entry {
     }
 }
 
-// The state of a head and a set.
+/// The state of a head and a set.
 fn unpack(head: u64, set: Sharers) -> State
     ensures { result ≡ state_of head set }
 {

@@ -11,8 +11,8 @@ use og_line::Line;
 use og_msg::{Kind, Letter, Msg, Outbox};
 use og_sharers::Sharers;
 
-// What a home serves: the block, who sent the message, and the machine's number of nodes, which is
-// the mover's own number.
+/// What a home serves: the block, who sent the message, and the machine's number of nodes, which is
+/// the mover's own number.
 #[derive(Clone, Copy)]
 struct Case {
     block: Block,
@@ -27,7 +27,7 @@ fn send(out: &mut Outbox, to: ActorId, kind: Kind)
     out.add(Letter { to, kind });
 }
 
-// Sends an invalidation to each other node of these groups, rising, and answers how many they are.
+/// Sends an invalidation to each other node of these groups, rising, and answers how many they are.
 fn invalidate_others(case: Case, sharers: &Sharers, out: &mut Outbox) -> u8
     requires nodes { case.nodes ≤ 128 }
     requires sender { case.sender ≤ case.nodes }
@@ -53,7 +53,7 @@ fn invalidate_others(case: Case, sharers: &Sharers, out: &mut Outbox) -> u8
     count
 }
 
-// The groups with a node's.
+/// The groups with a node's.
 fn with_sharer(sharers: Sharers, node: ActorId, nodes: u8) -> Sharers
     requires nodes { nodes ≤ 128 }
     requires node { node < nodes }
@@ -64,7 +64,7 @@ fn with_sharer(sharers: Sharers, node: ActorId, nodes: u8) -> Sharers
     sharers
 }
 
-// Refuses a request for now.
+/// Refuses a request for now.
 fn refuse(case: Case, out: &mut Outbox)
     requires { length out.old < 132 }
     ensures { out.new ≡ out.old ++ to case.sender (Said.Nak case.block) ∷ [] }
@@ -72,7 +72,7 @@ fn refuse(case: Case, out: &mut Outbox)
     send(out, case.sender, Kind::Nak { block: case.block });
 }
 
-// `Read`. The answer is whether the request counts.
+/// `Read`. The answer is whether the request counts.
 fn read(entry: &mut Entry, line: &Line, case: Case, out: &mut Outbox) -> bool
     requires nodes { case.nodes ≤ 128 }
     requires sender { case.sender < case.nodes }
@@ -149,7 +149,7 @@ fn read(entry: &mut Entry, line: &Line, case: Case, out: &mut Outbox) -> bool
     }
 }
 
-// `ReadEx`. The answer is whether the request counts.
+/// `ReadEx`. The answer is whether the request counts.
 fn read_exclusive(entry: &mut Entry, line: &Line, case: Case, out: &mut Outbox) -> bool
     requires nodes { case.nodes ≤ 128 }
     requires sender { case.sender < case.nodes }
@@ -223,8 +223,8 @@ fn read_exclusive(entry: &mut Entry, line: &Line, case: Case, out: &mut Outbox) 
     }
 }
 
-// The answer to an upgrade that is granted: where a bit of the set is a group, the node may have no
-// copy and gets the line.
+/// The answer to an upgrade that is granted: where a bit of the set is a group, the node may have no
+/// copy and gets the line.
 fn grant(line: &Line, case: Case, acks: u8) -> Kind
     ensures { result ≡ granted case.nodes case.block line.now acks }
 {
@@ -242,7 +242,7 @@ fn grant(line: &Line, case: Case, acks: u8) -> Kind
     }
 }
 
-// `Upgrade`. The answer is whether the request counts.
+/// `Upgrade`. The answer is whether the request counts.
 fn upgrade(entry: &mut Entry, line: &Line, case: Case, out: &mut Outbox) -> bool
     requires row { IsSome (upgrade_row case.nodes line.now case.sender case.block entry.old) }
     requires nodes { case.nodes ≤ 128 }
@@ -273,7 +273,7 @@ fn upgrade(entry: &mut Entry, line: &Line, case: Case, out: &mut Outbox) -> bool
     }
 }
 
-// `WriteBack` with this line.
+/// `WriteBack` with this line.
 fn write_back(entry: &mut Entry, line: &mut Line, case: Case, fresh: Line, out: &mut Outbox)
     requires row { IsSome (write_back_row case.nodes case.sender case.block fresh entry.old) }
     requires nodes { case.nodes ≤ 128 }
@@ -343,7 +343,7 @@ fn write_back(entry: &mut Entry, line: &mut Line, case: Case, fresh: Line, out: 
     }
 }
 
-// `SharingWriteBack` and `SharingTransfer`: the owner shares the block.
+/// `SharingWriteBack` and `SharingTransfer`: the owner shares the block.
 fn share(entry: &mut Entry, line: &Line, case: Case)
     requires row { IsSome (sharing_row case.nodes case.sender line.now entry.old) }
     requires nodes { case.nodes ≤ 128 }
@@ -360,7 +360,7 @@ fn share(entry: &mut Entry, line: &Line, case: Case)
     *entry = Entry::of(State::Shared(with_sharer(sharers, requester, case.nodes)));
 }
 
-// `DirtyTransfer`: the owner has given the block away.
+/// `DirtyTransfer`: the owner has given the block away.
 fn transfer(entry: &mut Entry, line: &Line, case: Case)
     requires row { IsSome (transfer_row line.now case.sender entry.old) }
     requires named { NamesNodes case.nodes entry.old }
@@ -384,7 +384,7 @@ fn transfer(entry: &mut Entry, line: &Line, case: Case)
     };
 }
 
-// `PoisonBack` and `PoisonClean`: the owner gives the block to the mover.
+/// `PoisonBack` and `PoisonClean`: the owner gives the block to the mover.
 fn give_up(entry: &mut Entry, line: &Line, case: Case, out: &mut Outbox)
     requires row { IsSome (poisoned_row case.nodes case.sender case.block line.now entry.old) }
     requires room { length out.old < 132 }
@@ -408,7 +408,7 @@ fn give_up(entry: &mut Entry, line: &Line, case: Case, out: &mut Outbox)
     );
 }
 
-// `PoisonRead`, from the mover.
+/// `PoisonRead`, from the mover.
 fn poison(entry: &mut Entry, line: &Line, case: Case, out: &mut Outbox)
     requires row { IsSome (poison_row case.nodes line.now case.block entry.old) }
     requires nodes { case.nodes ≤ 128 }
@@ -449,7 +449,7 @@ fn poison(entry: &mut Entry, line: &Line, case: Case, out: &mut Outbox)
     }
 }
 
-// `CopyIn` with this line, from the mover.
+/// `CopyIn` with this line, from the mover.
 fn copy_in(entry: &Entry, line: &mut Line, case: Case, fresh: Line, out: &mut Outbox)
     requires row { IsSome (copy_row case.nodes case.block fresh entry.now) }
     requires mover { case.sender ≡ case.nodes }
@@ -475,7 +475,7 @@ fn case_of(msg: &Msg, mover: ActorId, block: Block) -> Case
     }
 }
 
-// The row of a message that is no request.
+/// The row of a message that is no request.
 fn settle(entry: &mut Entry, line: &mut Line, msg: &Msg, mover: ActorId, out: &mut Outbox)
     requires row { IsSome (row_of mover line.old msg.now entry.old) }
     requires other { is_request msg.now.kind ≡ false }

@@ -14,7 +14,7 @@ use rv_hart::layout::all_pages;
 use std::alloc::Global;
 use std::marker::Model;
 
-// The lines of a page.
+/// The lines of a page.
 const PAGE_LINES: u64 = 32;
 
 /// The flat memory of a program: the lines of its data and stack pages, and a reservation for each
@@ -80,7 +80,7 @@ impl FlatMachine {
         is_aligned(access) && usize::from(hart) < self.reserved.len() && self.is_young(access)
     }
 
-    // Whether the block of an access is kept and has seen fewer than 2^63 stores.
+    /// Whether the block of an access is kept and has seen fewer than 2^63 stores.
     fn is_young(&self, access: &Access) -> bool
         ensures { IsTrue result ↔ IsYoung self.now access.now }
     {
@@ -90,7 +90,7 @@ impl FlatMachine {
         }
     }
 
-    // The place of a block's line, if it is kept.
+    /// The place of a block's line, if it is kept.
     fn find(&self, block: u64) -> Option<usize>
         ensures place { result ≡ place_in self.now.pages block }
         ensures inside { IfSome result (λ at. at < length self.now.lines) }
@@ -101,7 +101,7 @@ impl FlatMachine {
         }
     }
 
-    // The place of a block's line.
+    /// The place of a block's line.
     fn place(&self, block: u64) -> usize
         requires { has_block self.now block ≡ true }
         ensures place { place_in self.now.pages block ≡ Some result }
@@ -114,7 +114,7 @@ impl FlatMachine {
     }
 }
 
-// Whether an access has a width of its kind.
+/// Whether an access has a width of its kind.
 fn has_width(access: &Access) -> bool
     ensures { IsTrue result ↔ HasWidth access.now }
 {
@@ -128,7 +128,7 @@ fn has_width(access: &Access) -> bool
     }
 }
 
-// Whether an access has a width of its kind and an address that is a multiple of it.
+/// Whether an access has a width of its kind and an address that is a multiple of it.
 fn is_aligned(access: &Access) -> bool
     ensures { IsTrue result ↔ IsAligned access.now }
 {
@@ -147,7 +147,7 @@ pub fn start_line(image: &Image, block: u64) -> Line
     line
 }
 
-// Appends the lines of a page as they are at the start.
+/// Appends the lines of a page as they are at the start.
 fn push_page(lines: &mut Vec<Line>, image: &Image, page: u64) -> Result<(), NoMemory>
     requires { page < 2 ^ 50 }
     ensures { OnOk result (lines.new.items ≡ lines.old.items ++ start_lines (start_byte image.now) (32 * page) 32) }
@@ -158,7 +158,7 @@ fn push_page(lines: &mut Vec<Line>, image: &Image, page: u64) -> Result<(), NoMe
     Ok(())
 }
 
-// The lines of the pages as they are at the start.
+/// The lines of the pages as they are at the start.
 fn all_lines(alloc: Global, image: &Image, pages: &[u64]) -> Result<Vec<Line>, NoMemory>
     requires { (k : ℕ) → k < length pages.now → slice_index pages.now k < 2 ^ 50 }
     ensures { IfOk result (λ lines. lines.items ≡ flat_map (λ page. start_lines (start_byte image.now) (32 * page) 32) pages.now) }
@@ -170,7 +170,7 @@ fn all_lines(alloc: Global, image: &Image, pages: &[u64]) -> Result<Vec<Line>, N
     Ok(lines)
 }
 
-// No reservation, for each hart.
+/// No reservation, for each hart.
 fn no_reservations(alloc: Global, nodes: u8) -> Result<Vec<Option<Reservation>>, NoMemory>
     ensures { IfOk result (λ reserved. reserved.items ≡ replicate nodes None) }
 {

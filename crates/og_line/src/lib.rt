@@ -152,7 +152,7 @@ pub fn low_bytes(width: u8, value: u64) -> u64
     }
 }
 
-// The number of stores that a reservation of this address and width has.
+/// The number of stores that a reservation of this address and width has.
 fn standing_number(reserved: Option<Reservation>, addr: u64, width: u8) -> Option<u64>
     ensures { result ≡ standing_of reserved addr width }
 {
@@ -164,7 +164,7 @@ fn standing_number(reserved: Option<Reservation>, addr: u64, width: u8) -> Optio
     }
 }
 
-// The signed number that 4 or 8 bytes are.
+/// The signed number that 4 or 8 bytes are.
 fn signed(width: u8, value: u64) -> i64
     requires width_known { IsAtomicWidth width }
     requires fits { value < 256 ^ width }
@@ -180,7 +180,7 @@ fn signed(width: u8, value: u64) -> i64
 impl AtomicOp {
     ghost use Rattle.og_line.specs.Line.{IsAtomicWidth, atomic_value};
 
-    // What the operation stores, by the old number of 4 or 8 bytes and the operand.
+    /// What the operation stores, by the old number of 4 or 8 bytes and the operand.
     fn value(self, width: u8, old: u64, operand: u64) -> u64
         requires width_known { IsAtomicWidth width }
         requires fits { old < 256 ^ width }

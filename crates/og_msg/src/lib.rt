@@ -315,8 +315,8 @@ pub fn charge(msg: &Msg, victim: bool) -> Key
     }
 }
 
-// An intervention that finds its block in the victim slot is answered by nobody: it takes up no
-// place of the block's, but one of the receiver's.
+/// An intervention that finds its block in the victim slot is answered by nobody: it takes up no
+/// place of the block's, but one of the receiver's.
 fn intervention_key(block: Block, receiver: NodeId, victim: bool) -> Key
     ensures { result ≡ (if victim then Key.Left receiver else Key.Busy block) }
 {

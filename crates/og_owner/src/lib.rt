@@ -61,7 +61,7 @@ pub fn invalidate(
     send(out, requester, Kind::InvalAck { block });
 }
 
-// Marks a read of the block.
+/// Marks a read of the block.
 fn mark_read(request: &mut Request, block: Block)
     ensures { request.new ≡ after_invalidation request.old block }
 {
@@ -70,7 +70,7 @@ fn mark_read(request: &mut Request, block: Block)
     }
 }
 
-// The line of a dirty copy.
+/// The line of a dirty copy.
 fn dirty_line(cache: &Cache, block: Block) -> Option<Line>
     ensures { result ≡ dirty_line_of (look_of cache.now block) }
 {
@@ -80,7 +80,7 @@ fn dirty_line(cache: &Cache, block: Block) -> Option<Line>
     }
 }
 
-// Answers with the line of a dirty copy.
+/// Answers with the line of a dirty copy.
 fn answer_dirty(block: Block, line: &Line, held: Held, out: &mut Outbox)
     requires { length out.old + 2 ≤ 132 }
     ensures { out.new ≡ out.old ++ dirty_answers block line.now held }
@@ -100,7 +100,7 @@ fn answer_dirty(block: Block, line: &Line, held: Held, out: &mut Outbox)
     }
 }
 
-// Answers that the home's line is good.
+/// Answers that the home's line is good.
 fn answer_clean(block: Block, held: Held, out: &mut Outbox)
     requires { length out.old + 2 ≤ 132 }
     ensures { out.new ≡ out.old ++ clean_answers block held }
@@ -119,7 +119,7 @@ fn answer_clean(block: Block, held: Held, out: &mut Outbox)
     }
 }
 
-// Adds a letter.
+/// Adds a letter.
 fn send(out: &mut Outbox, to: ActorId, kind: Kind)
     requires { length out.old < 132 }
     ensures { out.new ≡ out.old ++ letter_to to kind ∷ [] }
@@ -140,7 +140,7 @@ fn yield_copy(cache: &mut Cache, block: Block, held: Held)
     }
 }
 
-// Shares the copy, if there is one.
+/// Shares the copy, if there is one.
 fn share_copy(cache: &mut Cache, block: Block)
     ensures { cache.new ≡ with_mode cache.old block Mode.Shared }
 {

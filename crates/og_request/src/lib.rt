@@ -256,7 +256,7 @@ impl Request {
         }
     }
 
-    // A shared fill, which a marked read may not make: its line may be older than the invalidation.
+    /// A shared fill, which a marked read may not make: its line may be older than the invalidation.
     fn shared_fill(&self, line: Line) -> Outcome
         ensures { result ≡ shared_fill self.now.marked line }
     {
@@ -270,7 +270,7 @@ impl Request {
         }
     }
 
-    // A fill of the only copy, once all acknowledgements are there.
+    /// A fill of the only copy, once all acknowledgements are there.
     fn fill_after(&self, named: u8, line: Option<Line>) -> Outcome
         ensures { result ≡ fill_after self.now.acks named line }
     {
@@ -284,7 +284,7 @@ impl Request {
         }
     }
 
-    // Whether the table has this kind of part for what is wanted, with the parts that were received.
+    /// Whether the table has this kind of part for what is wanted, with the parts that were received.
     fn has_part(&self, kind: &Kind) -> bool
         ensures { result ≡ has_part self.now.want self.now kind.now }
     {
@@ -305,21 +305,21 @@ impl Request {
         }
     }
 
-    // Nothing was received.
+    /// Nothing was received.
     fn is_new(&self) -> bool
         ensures { result ≡ is_new self.now }
     {
         self.reply.is_none() && self.response.is_none() && self.acks == 0
     }
 
-    // A reply that names so many acknowledgements fits.
+    /// A reply that names so many acknowledgements fits.
     fn counts_acks(&self, named: u8) -> bool
         ensures { result ≡ counts_acks self.now named }
     {
         self.reply.is_none() && self.response.is_none() && self.acks <= named
     }
 
-    // A speculative reply fits.
+    /// A speculative reply fits.
     fn speculates(&self) -> bool
         ensures { result ≡ speculates self.now }
     {
@@ -332,7 +332,7 @@ impl Request {
         self.reply.is_none() && fits && self.acks == 0
     }
 
-    // A response fits.
+    /// A response fits.
     fn responds(&self) -> bool
         ensures { result ≡ responds self.now }
     {
@@ -340,14 +340,14 @@ impl Request {
         self.response.is_none() && awaits && self.acks == 0
     }
 
-    // One more acknowledgement fits.
+    /// One more acknowledgement fits.
     fn acknowledges(&self) -> bool
         ensures { result ≡ acknowledges self.now }
     {
         self.response.is_none() && self.acks < self.most_acks()
     }
 
-    // How many acknowledgements may come: as many as the reply names, and as many as one may name before it is there.
+    /// How many acknowledgements may come: as many as the reply names, and as many as one may name before it is there.
     fn most_acks(&self) -> u8
         ensures { result ≡ most_acks self.now.reply }
     {
@@ -359,7 +359,7 @@ impl Request {
     }
 }
 
-// A fill of the only copy.
+/// A fill of the only copy.
 fn dirty_fill(line: Line) -> Outcome
     ensures { result ≡ Outcome.Filled Mode.Dirty (Some line) }
 {

@@ -37,7 +37,7 @@ impl Model for Sharers {
     ghost inverse_ok = { λ s low. ap (λ b. record { bits = b }) (word_of-members_of 64 s.bits low) };
 }
 
-// The group of a node. There are never more than 64.
+/// The group of a node. There are never more than 64.
 fn group(node: NodeId, nodes: u8) -> u8
     requires node { node < nodes }
     requires nodes { nodes ≤ 128 }
@@ -47,7 +47,7 @@ fn group(node: NodeId, nodes: u8) -> u8
     node / group_size(nodes)
 }
 
-// Puts a node in, if there is such a node and it isn't `node`.
+/// Puts a node in, if there is such a node and it isn't `node`.
 fn add_other(others: &mut Nodes, other: u8, node: NodeId, nodes: u8)
     requires nodes { nodes ≤ 128 }
     ensures { (k : ℕ) → set.contains others.new k ≡ (set.contains others.old k || (nat_eq k other && (nat_lt k nodes && not (nat_eq k node)))) }
@@ -57,7 +57,7 @@ fn add_other(others: &mut Nodes, other: u8, node: NodeId, nodes: u8)
     }
 }
 
-// Puts the nodes of a group in, without `node`.
+/// Puts the nodes of a group in, without `node`.
 fn add_group(others: &mut Nodes, group: u8, node: NodeId, nodes: u8)
     requires group { group < 64 }
     requires nodes { nodes ≤ 128 }
@@ -110,7 +110,7 @@ impl Sharers {
         others
     }
 
-    // The least group from `from` on, if there is one.
+    /// The least group from `from` on, if there is one.
     fn least_group(&self, from: u8) -> Option<u8>
         ensures member { IfSome result (λ group. set.contains self.now group ≡ true) }
         ensures from { IfSome result (λ group. from ≤ group) }

@@ -45,7 +45,7 @@ impl Model for Tlb {
     ghost invariant = { λ t. IsTlb (record { slots = t.slots.items; next = t.next }) };
 }
 
-// Whether a slot has the page.
+/// Whether a slot has the page.
 fn is_for(slot: &Option<Translation>, page: VPage) -> bool
     ensures { result ≡ slot_has page slot.now }
 {
@@ -55,7 +55,7 @@ fn is_for(slot: &Option<Translation>, page: VPage) -> bool
     }
 }
 
-// A slot, empty where it has the page.
+/// A slot, empty where it has the page.
 fn unless_for(slot: Option<Translation>, page: VPage) -> Option<Translation>
     ensures { result ≡ (if slot_has page slot then None else slot) }
 {
@@ -65,7 +65,7 @@ fn unless_for(slot: Option<Translation>, page: VPage) -> Option<Translation>
     }
 }
 
-// A slot, empty where it has the frame.
+/// A slot, empty where it has the frame.
 fn unless_to(slot: Option<Translation>, frame: Frame) -> Option<Translation>
     ensures { result ≡ (if slot_leads frame slot then None else slot) }
 {
@@ -75,7 +75,7 @@ fn unless_to(slot: Option<Translation>, frame: Frame) -> Option<Translation>
     }
 }
 
-// Empties each slot that has the page.
+/// Empties each slot that has the page.
 fn empty_page(slots: &mut [Option<Translation>], page: VPage)
     ensures { slots.new ≡ emptied (slot_has page) slots.old }
 {
@@ -84,7 +84,7 @@ fn empty_page(slots: &mut [Option<Translation>], page: VPage)
     }
 }
 
-// Empties each slot that has the frame.
+/// Empties each slot that has the frame.
 fn empty_frame(slots: &mut [Option<Translation>], frame: Frame)
     ensures { slots.new ≡ emptied (slot_leads frame) slots.old }
 {
@@ -142,7 +142,7 @@ impl Tlb {
         empty_frame(&mut self.slots, frame);
     }
 
-    // The slot that a fill writes, and the next one afterwards.
+    /// The slot that a fill writes, and the next one afterwards.
     fn place_for(&self, page: VPage) -> (usize, usize)
         ensures place { result.0 ≡ place_for self.now page }
         ensures next { result.1 ≡ next_after self.now page }
@@ -155,7 +155,7 @@ impl Tlb {
         }
     }
 
-    // The slot of a page.
+    /// The slot of a page.
     fn slot_of(&self, page: VPage) -> Option<usize>
         ensures value { result ≡ slot_of self.now page }
         ensures sound { IsTlb self.now }
@@ -163,7 +163,7 @@ impl Tlb {
         self.slots.iter().position(|slot| is_for(slot, page))
     }
 
-    // The lowest empty slot.
+    /// The lowest empty slot.
     fn empty_slot_of(&self) -> Option<usize>
         ensures { result ≡ empty_slot_of self.now }
     {

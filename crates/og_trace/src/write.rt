@@ -13,7 +13,7 @@ use og_msg::{Event, Note};
 use og_runs::{Choice, Stamp};
 use std::alloc::Global;
 
-// A blank and a word.
+/// A blank and a word.
 fn push_word(text: &mut Vec<u8>, word: &[u8]) -> Result<(), NoMemory>
     ensures { OnOk result (text.new.items ≡ text.old.items ++ 32 ∷ word.now) }
 {
@@ -21,7 +21,7 @@ fn push_word(text: &mut Vec<u8>, word: &[u8]) -> Result<(), NoMemory>
     text.extend_from_slice(word)
 }
 
-// A blank and a decimal number.
+/// A blank and a decimal number.
 fn push_decimal(text: &mut Vec<u8>, number: u64) -> Result<(), NoMemory>
     ensures { OnOk result (text.new.items ≡ text.old.items ++ 32 ∷ decimal number) }
 {
@@ -29,7 +29,7 @@ fn push_decimal(text: &mut Vec<u8>, number: u64) -> Result<(), NoMemory>
     push_word(text, buffer.format(number).as_bytes())
 }
 
-// The hexadecimal digit at this place, 0 for the lowest.
+/// The hexadecimal digit at this place, 0 for the lowest.
 fn hex_digit_of(number: u64, place: u32) -> u8
     requires { place < 16 }
     ensures { result ≡ hex_digit (number / 2 ^ (4 * place) % 16) }
@@ -42,7 +42,7 @@ fn hex_digit_of(number: u64, place: u32) -> u8
     }
 }
 
-// The lowest hexadecimal digits, so many of them, the highest first.
+/// The lowest hexadecimal digits, so many of them, the highest first.
 fn push_digits(text: &mut Vec<u8>, number: u64, count: u32) -> Result<(), NoMemory>
     requires { count ≤ 16 }
     ensures { OnOk result (text.new.items ≡ text.old.items ++ hex_digits count number) }
@@ -55,7 +55,7 @@ fn push_digits(text: &mut Vec<u8>, number: u64, count: u32) -> Result<(), NoMemo
     Ok(())
 }
 
-// A blank and 16 hexadecimal digits.
+/// A blank and 16 hexadecimal digits.
 fn push_hex(text: &mut Vec<u8>, number: u64) -> Result<(), NoMemory>
     ensures { OnOk result (text.new.items ≡ text.old.items ++ 32 ∷ hex number) }
 {
@@ -63,7 +63,7 @@ fn push_hex(text: &mut Vec<u8>, number: u64) -> Result<(), NoMemory>
     push_digits(text, number, 16)
 }
 
-// A page, as its address.
+/// A page, as its address.
 fn push_page(text: &mut Vec<u8>, page: VPage) -> Result<(), NoMemory>
     ensures { OnOk result (text.new.items ≡ text.old.items ++ 32 ∷ page_word page.0) }
 {
@@ -121,7 +121,7 @@ fn reason_text(reason: Reason) -> &'static [u8]
     }
 }
 
-// The word of an access, its address and its width.
+/// The word of an access, its address and its width.
 fn push_place(text: &mut Vec<u8>, word: &[u8], addr: u64, width: u8) -> Result<(), NoMemory>
     ensures { OnOk result (text.new.items ≡ text.old.items ++ spaced (word.now ∷ hex addr ∷ decimal width ∷ [])) }
 {
@@ -171,7 +171,7 @@ fn push_access(text: &mut Vec<u8>, access: &Access, answer: u64) -> Result<(), N
     }
 }
 
-// A move of a page, begun or made.
+/// A move of a page, begun or made.
 fn push_move(
     text: &mut Vec<u8>,
     word: &[u8],
@@ -201,7 +201,7 @@ fn push_refusal(
     push_decimal(text, u64::from(node))
 }
 
-// A word and a value.
+/// A word and a value.
 fn push_value(text: &mut Vec<u8>, word: &[u8], value: u64) -> Result<(), NoMemory>
     ensures { OnOk result (text.new.items ≡ text.old.items ++ spaced (word.now ∷ hex value ∷ [])) }
 {
@@ -323,7 +323,7 @@ pub(crate) fn push_item(text: &mut Vec<u8>, item: &Item) -> Result<(), NoMemory>
     }
 }
 
-// A line with its line feed.
+/// A line with its line feed.
 fn push_line(text: &mut Vec<u8>, item: &Item) -> Result<(), NoMemory>
     ensures { OnOk result (text.new.items ≡ text.old.items ++ (item_text item.now ++ 10 ∷ [])) }
 {

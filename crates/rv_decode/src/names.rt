@@ -150,7 +150,7 @@ pub(crate) fn atomic_name(funct3: u32, funct5: u32) -> Option<Op>
     }
 }
 
-// The system words are one word each: all but bits 20 to 31 is 0 above the opcode.
+/// The system words are one word each: all but bits 20 to 31 is 0 above the opcode.
 pub(crate) fn system_name(rest: u32, funct12: u32) -> Option<Op>
     ensures { result ≡ name_by (λ r. (rest == 0) && (funct12 == r.above)) system_rows }
 {
@@ -161,7 +161,7 @@ pub(crate) fn system_name(rest: u32, funct12: u32) -> Option<Op>
     }
 }
 
-// A load-reserved has no second source register.
+/// A load-reserved has no second source register.
 pub(crate) fn reserve_name(funct3: u32, funct5: u32, rs2: u32) -> Option<Op>
     ensures { result ≡ name_by (λ r. (funct3 == r.funct3) && ((funct5 == r.above) && (rs2 == 0))) reserve_rows }
 {

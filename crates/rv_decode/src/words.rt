@@ -8,7 +8,7 @@ ghost use Rattle.rv_decode.specs.Words.{above_of, fixed_of, imm_word, ordering_a
 use crate::fields::bits;
 use crate::{Format, Instr, Row};
 
-// A register's number at bit `low`.
+/// A register's number at bit `low`.
 fn register_bits(register: u8, low: u32) -> u32
     requires { low ≤ 20 }
     ensures { result ≡ register_at register low }
@@ -16,7 +16,7 @@ fn register_bits(register: u8, low: u32) -> u32
     u32::from(register % 32) << low
 }
 
-// So many bits of an immediate, from bit `from` upwards, at bit `low`.
+/// So many bits of an immediate, from bit `from` upwards, at bit `low`.
 fn moved(imm: u32, from: u32, count: u32, low: u32) -> u32
     requires some { 0 < count }
     requires narrow { count < 32 }
@@ -27,21 +27,21 @@ fn moved(imm: u32, from: u32, count: u32, low: u32) -> u32
     bits(imm, from, count) << low
 }
 
-// The low 32 bits of the immediate.
+/// The low 32 bits of the immediate.
 fn low_word(instr: &Instr) -> u32
     ensures { result ≡ imm_word instr.now }
 {
     (instr.imm.cast_unsigned() % (1 << 32)) as u32
 }
 
-// The two bits of ordering.
+/// The two bits of ordering.
 fn ordering(instr: &Instr) -> u32
     ensures { result ≡ ordering_at instr.now }
 {
     (u32::from(instr.aq) << 26) + (u32::from(instr.rl) << 25)
 }
 
-// Opcode and funct3.
+/// Opcode and funct3.
 fn fixed(row: &Row) -> u32
     requires opcode { row.now.opcode < 128 }
     requires funct3 { row.now.funct3 < 8 }
@@ -50,14 +50,14 @@ fn fixed(row: &Row) -> u32
     row.opcode + (row.funct3 << 12)
 }
 
-// Both source registers.
+/// Both source registers.
 fn sources(instr: &Instr) -> u32
     ensures { result ≡ sources_of instr.now }
 {
     register_bits(instr.rs1, 15) + register_bits(instr.rs2, 20)
 }
 
-// The word of an instruction of this row.
+/// The word of an instruction of this row.
 pub(crate) fn assemble(row: &Row, instr: &Instr) -> u32
     requires opcode { row.now.opcode < 128 }
     requires funct3 { row.now.funct3 < 8 }

@@ -8,28 +8,28 @@ ghost use Rattle.rv_hart.specs.Work.{access_by, alu_value, extended, is_met, is_
 use crate::work::{Alu, Condition, WordAlu, Work};
 use og_line::{Access, low_bytes};
 
-// The low 8 bits, sign-extended.
+/// The low 8 bits, sign-extended.
 fn extend_byte(x: u64) -> u64
     ensures { result ≡ byte_extended x }
 {
     i64::from(((x & 0xff) as u8).cast_signed()).cast_unsigned()
 }
 
-// The low 16 bits, sign-extended.
+/// The low 16 bits, sign-extended.
 fn extend_half(x: u64) -> u64
     ensures { result ≡ half_extended x }
 {
     i64::from(((x & 0xffff) as u16).cast_signed()).cast_unsigned()
 }
 
-// The low 32 bits, sign-extended.
+/// The low 32 bits, sign-extended.
 fn extend_word(x: u64) -> u64
     ensures { result ≡ word_extended x }
 {
     i64::from(((x & 0xffff_ffff) as u32).cast_signed()).cast_unsigned()
 }
 
-// The low bytes of an answer, sign-extended.
+/// The low bytes of an answer, sign-extended.
 fn extend(width: u8, x: u64) -> u64
     ensures { result ≡ extended width x }
 {
@@ -41,7 +41,7 @@ fn extend(width: u8, x: u64) -> u64
     }
 }
 
-// Arithmetic on 64 bits.
+/// Arithmetic on 64 bits.
 fn compute(alu: Alu, a: u64, b: u64) -> u64
     ensures { result ≡ alu_value alu a b }
 {
@@ -59,7 +59,7 @@ fn compute(alu: Alu, a: u64, b: u64) -> u64
     }
 }
 
-// Arithmetic on 32 bits, with the result sign-extended.
+/// Arithmetic on 32 bits, with the result sign-extended.
 fn compute_word(alu: WordAlu, a: u64, b: u64) -> u64
     ensures { result ≡ word_alu_value alu a b }
 {
@@ -73,7 +73,7 @@ fn compute_word(alu: WordAlu, a: u64, b: u64) -> u64
     }
 }
 
-// Whether a branch is taken.
+/// Whether a branch is taken.
 fn meets(condition: Condition, a: u64, b: u64) -> bool
     ensures { result ≡ is_met condition a b }
 {

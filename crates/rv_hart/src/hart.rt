@@ -55,7 +55,7 @@ impl Model for Hart {
     ghost inverse = { λ h. record { regs = h.regs; pc = h.pc; left = h.left; cause = h.cause } };
 }
 
-// What an instruction works on.
+/// What an instruction works on.
 #[derive(Clone, Copy)]
 struct Operands {
     work: Work,
@@ -64,7 +64,7 @@ struct Operands {
     b: u64,
 }
 
-// The calls of an execution environment, by x17.
+/// The calls of an execution environment, by x17.
 const EXIT: u64 = 93;
 
 const EMIT: u64 = 1;
@@ -88,7 +88,7 @@ impl Hart {
         }
     }
 
-    // The instruction at the pc, if there is one.
+    /// The instruction at the pc, if there is one.
     fn instruction(&self, image: &Image) -> Option<Instr>
         ensures value { result ≡ instr_of image.now self.now }
         ensures registers { IfSome result HasRegisters }
@@ -97,7 +97,7 @@ impl Hart {
         decode(word)
     }
 
-    // An instruction's operands, read.
+    /// An instruction's operands, read.
     fn operands(&self, instr: &Instr) -> Operands
         requires { HasRegisters instr.now }
         ensures work { result.work ≡ work_of instr.now.op }
@@ -153,7 +153,7 @@ impl Hart {
         }
     }
 
-    // An environment call: exit, emit, or one that isn't known.
+    /// An environment call: exit, emit, or one that isn't known.
     fn call_need(&self) -> Need
         ensures { result ≡ call_need self.now }
     {
@@ -178,7 +178,7 @@ impl Hart {
         self.need(image)
     }
 
-    // The registers after a result: x0 stays 0.
+    /// The registers after a result: x0 stays 0.
     fn write(&mut self, rd: u8, value: Option<u64>)
         requires { rd < 32 }
         ensures { self.new ≡ record self.old { regs = with_result self.old.regs rd value } }
@@ -247,7 +247,7 @@ impl Hart {
     }
 }
 
-// An access: misaligned, a load of read-only bytes, outside the data and stack pages, or made.
+/// An access: misaligned, a load of read-only bytes, outside the data and stack pages, or made.
 fn access_need(image: &Image, access: Access) -> Need
     requires { HasWidth access }
     ensures { result ≡ access_need image.now access }
@@ -263,7 +263,7 @@ fn access_need(image: &Image, access: Access) -> Need
     }
 }
 
-// A load of bytes that no segment may write: its answer.
+/// A load of bytes that no segment may write: its answer.
 fn constant(image: &Image, access: &Access) -> Option<u64>
     requires { width_of access.now ≤ 8 }
     ensures { result ≡ constant_of image.now access.now }

@@ -6,15 +6,15 @@ use std::process::Abort;
 
 const PC: u64 = 0x1_0008;
 
-// -1, and the least and the greatest signed number.
+/// -1, and the least and the greatest signed number.
 const ONES: u64 = 0xffff_ffff_ffff_ffff;
 
 const LEAST: u64 = 0x8000_0000_0000_0000;
 
 const GREATEST: u64 = 0x7fff_ffff_ffff_ffff;
 
-// Operation, immediate, first and second source, memory's answer, and the result: by the rules of the
-// manual, at 0, 1, -1, the least and the greatest signed number, and shifts by 0 and by all but one bit.
+/// Operation, immediate, first and second source, memory's answer, and the result: by the rules of the
+/// manual, at 0, 1, -1, the least and the greatest signed number, and shifts by 0 and by all but one bit.
 type Value = (Op, u64, u64, u64, u64, u64);
 
 static VALUES: [Value; 263] = [
@@ -322,7 +322,7 @@ fn no_results(rt: HostRuntime) {
     }
 }
 
-// Operation, immediate, sources, and where it goes if not on.
+/// Operation, immediate, sources, and where it goes if not on.
 type Target = (Op, u64, u64, u64, Option<u64>);
 
 static TARGETS: [Target; 35] = [
@@ -376,7 +376,7 @@ fn targets(rt: HostRuntime) {
     assert_eq!(rt; jump_target(find_work(Op::Addi), 4, PC, 0, 0), None);
 }
 
-// Operation, immediate, sources, and the access.
+/// Operation, immediate, sources, and the access.
 type Made = (Op, u64, u64, u64, Access);
 
 static ACCESSES: [Made; 33] = [
