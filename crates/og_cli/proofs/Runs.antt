@@ -8,7 +8,7 @@ use Rattle.og_msg.specs.declared.Note.{Note}
 use Rattle.og_core.specs.Machine.{start_of}
 use Rattle.og_cli.specs.declared.exit.Exit.{Exit}
 use Rattle.og_cli.specs.declared.exit.Exit.TheVariants as exit
-use Rattle.og_cli.specs.Text.{text_of}
+use Rattle.og_trace.specs.Text.{text_with, head_seen}
 use Rattle.og_cli.specs.Simulate.{IsSimulated}
 use Rattle.og_cli.specs.declared.words.WordsFault.{WordsFault}
 use Rattle.og_cli.specs.declared.words.WordsFault.TheVariants as words
@@ -26,18 +26,18 @@ no_fault bytes settings short sound room =
 
 module _ (bytes : List ℕ) (settings : SettingsState) (most : ℕ) (es : List (Event Note)) (old new : SinkState)
     (fine : image_fault bytes settings ≡ None) where
-  text_is : (q : Bool) → IsSimulated (image_of bytes settings.nodes) (start_of (image_of bytes settings.nodes) settings) most es q → IsRunText bytes settings most (text_of es q) q
+  text_is : (q : Bool) → IsSimulated (image_of bytes settings.nodes) (start_of (image_of bytes settings.nodes) settings) most es q → IsRunText bytes settings most (text_with (head_seen settings) es q) q
   text_is q run = record { accepted = fine; events = es; run = run; text_is = refl }
 
   -- what was simulated, printed
-  pub run_ends : (q : Bool) (x : Exit) → IsSimulated (image_of bytes settings.nodes) (start_of (image_of bytes settings.nodes) settings) most es q → PrintEnds es q old new x → RunEnds bytes settings most old new x
-  run_ends true exit.Quiet run p = (text_of es true, text_is true run, p.1)
+  pub run_ends : (q : Bool) (x : Exit) → IsSimulated (image_of bytes settings.nodes) (start_of (image_of bytes settings.nodes) settings) most es q → PrintEnds settings es q old new x → RunEnds bytes settings most old new x
+  run_ends true exit.Quiet run p = (text_with (head_seen settings) es true, text_is true run, p.1)
   run_ends false exit.Quiet run p = let e : exit.Quiet ≡ exit.Limit = p.0 in absurd (cc)
   run_ends true exit.Limit run p = let e : exit.Limit ≡ exit.Quiet = p.0 in absurd (cc)
-  run_ends false exit.Limit run p = (text_of es false, text_is false run, p.1)
-  run_ends q exit.SinkFault run p = (text_of es q, q, text_is q run, p)
+  run_ends false exit.Limit run p = (text_with (head_seen settings) es false, text_is false run, p.1)
+  run_ends q exit.SinkFault run p = (text_with (head_seen settings) es q, q, text_is q run, p)
   run_ends q exit.Memory run (inl same) = inl same
-  run_ends q exit.Memory run (inr cut) = inr (text_of es q, q, text_is q run, cut)
+  run_ends q exit.Memory run (inr cut) = inr (text_with (head_seen settings) es q, q, text_is q run, cut)
   run_ends true exit.Words run p = let e : exit.Words ≡ exit.Quiet = p.0 in absurd (cc)
   run_ends false exit.Words run p = let e : exit.Words ≡ exit.Limit = p.0 in absurd (cc)
   run_ends true exit.NotBuilt run p = let e : exit.NotBuilt ≡ exit.Quiet = p.0 in absurd (cc)

@@ -12,7 +12,7 @@ use Rattle.og_cli.specs.declared.exit.Exit.TheVariants as exit
 use Rattle.og_cli.specs.declared.exit.ImageFault.{ImageFault}
 use Rattle.og_cli.specs.declared.exit.ImageFault.TheVariants as fault
 use Rattle.og_io.specs.Outside.{ShelfState, SinkState, Files, file_of, HasFile, HasLongFile, appended, AppendsPrefix, Rises, IsAsBefore}
-use Rattle.og_cli.specs.Text.{text_of}
+use Rattle.og_trace.specs.Text.{text_with, head_seen}
 use Rattle.og_cli.specs.Simulate.{IsSimulated}
 use Rattle.og_cli.specs.declared.words.WordsFault.{WordsFault}
 use Rattle.og_cli.specs.declared.words.WordsFault.TheVariants as words
@@ -80,7 +80,7 @@ pub record IsRunText (bytes : List ℕ) (settings : SettingsState) (most : ℕ) 
   pub accepted : image_fault bytes settings ≡ None
   pub events : List (Event Note)
   pub run : IsSimulated (image_of bytes settings.nodes) (start_of (image_of bytes settings.nodes) settings) most events quiet
-  pub text_is : text ≡ text_of events quiet
+  pub text_is : text ≡ text_with (head_seen settings) events quiet
 
 -- the whole text was appended
 abbrev pub Printed : List ℕ → SettingsState → ℕ → SinkState → SinkState → Bool → Type 0
@@ -105,10 +105,10 @@ ended_of true = exit.Quiet
 ended_of false = exit.Limit
 
 -- how the printing of these events ends
-abbrev pub PrintEnds : List (Event Note) → Bool → SinkState → SinkState → Exit → Type 0
-PrintEnds es quiet old new exit.SinkFault = CutByFault (text_of es quiet) old new
-PrintEnds es quiet old new exit.Memory = (new ≡ old) ⊎ CutByWant (text_of es quiet) old new
-PrintEnds es quiet old new other = (other ≡ ended_of quiet) × (new ≡ with_appended old (text_of es quiet))
+abbrev pub PrintEnds : SettingsState → List (Event Note) → Bool → SinkState → SinkState → Exit → Type 0
+PrintEnds settings es quiet old new exit.SinkFault = CutByFault (text_with (head_seen settings) es quiet) old new
+PrintEnds settings es quiet old new exit.Memory = (new ≡ old) ⊎ CutByWant (text_with (head_seen settings) es quiet) old new
+PrintEnds settings es quiet old new other = (other ≡ ended_of quiet) × (new ≡ with_appended old (text_with (head_seen settings) es quiet))
 
 -- ------------------------------------------------------------ the command
 

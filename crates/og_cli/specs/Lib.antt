@@ -1,4 +1,3 @@
 pub mod Exit
 pub mod Simulate
-pub mod Text
 pub mod Words

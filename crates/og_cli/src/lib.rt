@@ -1,7 +1,7 @@
 //! The command: what it reads and writes, and what it prints.
 //!
 //! Below stand the machine and all that it stands on, and the files and sinks of `og_io`. Above stand programs of one line, and the
-//! comparison of the examples. `words` has what the words of the command line ask for; `simulate` a run from a machine's start; `text` the text of a run;
+//! comparison of the examples. `words` has what the words of the command line ask for; `simulate` a run from a machine's start;
 //! `exit` how the command ends; `top` the command from its words to its answer; `program` the whole
 //! program over the system's files and streams.
 //!
@@ -11,6 +11,5 @@
 pub mod exit;
 pub mod program;
 pub mod simulate;
-pub mod text;
 pub mod top;
 pub mod words;

@@ -7,17 +7,16 @@ ghost use Rattle.og_base.specs.Settings.{settings_seen};
 ghost use Rattle.og_core.specs.Machine.{start_of};
 ghost use Rattle.og_io.specs.Outside.{TellsLongFile, parts_text, texts};
 ghost use Rattle.og_cli.specs.Simulate.{IsSimulated};
-ghost use Rattle.og_cli.specs.Text.{text_of};
 ghost use Rattle.og_cli.specs.Exit.{fault_text, refused_of, default_settings, is_built, JobEnds, CommandEnds, EndsUnhindered, IsReported, name_of, PrintEnds, ended_of, RunEnds, IsRunText, image_of, image_fault, error_line};
 ghost use Rattle.og_cli.specs.Words.{job_seen, job_of};
 
 use crate::exit::{Exit, ImageFault};
 use crate::simulate::{Simulated, simulate};
-use crate::text::write_text;
 use crate::words::{Job, WordsFault, read_words};
 use itoa::Buffer;
 use og_base::Settings;
 use og_core::machine::Machine;
+use og_trace::write_text;
 use og_io::{Shelf, ShelfFault, Sink, SinkFault, write_all, write_parts};
 use rv_hart::image::Image;
 use rv_hart::layout::LayoutFault;
@@ -28,10 +27,15 @@ use std::alloc::Global;
 const MOST_IMAGE: u64 = 67_108_864;
 
 /// Writes the text of a simulation.
-fn print<K: Sink>(alloc: Global, simulated: &Simulated, out: &mut K) -> Exit
-    ensures { PrintEnds simulated.now.events.items simulated.now.quiet (K.seen out.old) (K.seen out.new) result }
+fn print<K: Sink>(
+    alloc: Global,
+    settings: &Settings,
+    simulated: &Simulated,
+    out: &mut K,
+) -> Exit
+    ensures { PrintEnds (settings_seen settings.now) simulated.now.events.items simulated.now.quiet (K.seen out.old) (K.seen out.new) result }
 {
-    let text = match write_text(alloc, &simulated.events, simulated.quiet) {
+    let text = match write_text(alloc, settings, &simulated.events, simulated.quiet) {
         Ok(text) => text,
         Err(_) => return Exit::Memory,
     };
@@ -79,7 +83,7 @@ fn run_bytes<K: Sink>(
         Err(LayoutFault::Memory) => return Exit::Memory,
     };
     match simulate(alloc, &image, &mut machine, events) {
-        Ok(simulated) => print(alloc, &simulated, out),
+        Ok(simulated) => print(alloc, settings, &simulated, out),
         Err(_) => Exit::Memory,
     }
 }

@@ -25,6 +25,7 @@ use Rattle.og_runs.specs.declared.Choice.{Choice}
 use Rattle.og_runs.specs.declared.Choice.TheVariants.{Act, Take}
 use Rattle.og_runs.specs.declared.Stamp.{Stamp}
 use Rattle.og_runs.specs.declared.Event.{Event}
+use Rattle.og_base.specs.Settings.{SettingsState, settings_seen}
 use Rattle.og_base.specs.declared.Settings.{Settings}
 use Rattle.og_trace.specs.declared.item.Head.{Head}
 use Rattle.og_trace.specs.declared.item.End.{End}
@@ -158,8 +159,11 @@ abbrev pub access_count : List (Event Note) → ℕ
 access_count es = count_by (λ e. is_access e.note) es
 
 -- the numbers of a head
+abbrev pub head_seen : SettingsState → Head
+head_seen s = record { nodes = s.nodes; frames = s.frames; sets = s.sets; ways = s.ways; tlb = s.tlb; instructions = s.instructions; trigger = s.trigger; sharing = s.sharing; moves = s.moves; reset = s.reset }
+
 abbrev pub head_of : Settings → Head
-head_of s = record { nodes = s.nodes; frames = s.frames; sets = s.sets; ways = s.ways; tlb = s.tlb; instructions = s.instructions; trigger = s.trigger; sharing = s.sharing; moves = s.moves; reset = s.reset }
+head_of s = head_seen (settings_seen s)
 
 -- a note's line, where there is a note, before other lines
 abbrev pub with_note : Stamp → Option Note → List Item → List Item
@@ -175,10 +179,16 @@ with_events (e ∷ es) items = ChoiceLine e.choice ∷ with_note e.stamp e.note 
 abbrev pub end_of : List (Event Note) → Bool → End
 end_of es quiet = record { quiet = quiet; events = length es; accesses = access_count es }
 
--- the lines of a run with these settings and events, which ended quiet or at its limit
+-- the lines of a run with this head and these events, which ended quiet or at its limit
+abbrev pub items_with : Head → List (Event Note) → Bool → List Item
+items_with head es quiet = HeadLine head ∷ with_events es (EndLine (end_of es quiet) ∷ [])
+
 abbrev pub items_of : Settings → List (Event Note) → Bool → List Item
-items_of settings es quiet = HeadLine (head_of settings) ∷ with_events es (EndLine (end_of es quiet) ∷ [])
+items_of settings es quiet = items_with (head_of settings) es quiet
 
 -- the text of that run
+abbrev pub text_with : Head → List (Event Note) → Bool → List ℕ
+text_with head es quiet = items_text (items_with head es quiet)
+
 abbrev pub text_of : Settings → List (Event Note) → Bool → List ℕ
-text_of settings es quiet = items_text (items_of settings es quiet)
+text_of settings es quiet = text_with (head_of settings) es quiet

@@ -9,7 +9,7 @@ const STORE: &[u8] = b"\x1c\x00\x00\x00\xb7\x05\x10\x00\x13\x06\xa0\x02\x23\xa0\
     \x83\xa6\x05\x00\x93\x08\xd0\x05\x13\x05\x00\x00\x73\x00\x00\x00";
 
 // What its run prints.
-const TEXT: &[u8] = b"act 0\nact 0\nact 0\ntake 0 0 0\ntake 0 0 1\n\
+const TEXT: &[u8] = b"origin 2 1 64 64 2 8 1000000 64 32 4 1024\nact 0\nact 0\nact 0\ntake 0 0 0\ntake 0 0 1\n\
     at 5 0 store 0000000000100000 4 000000000000002a\nact 0\n\
     at 6 0 load 0000000000100000 4 = 000000000000002a\nact 0\nact 0\nact 0\n\
     at 9 0 exit 0000000000000000\nquiet 9 2\n";
@@ -87,18 +87,18 @@ fn a_run_prints_its_text(rt: HostRuntime) -> Result<(), Fail> {
     let table: &[(&str, u8, &[u8])] = &[
         ("simulate store.raw --raw", 0, TEXT),
         ("simulate store.raw --raw --nodes 1", 0, TEXT),
-        ("simulate store.raw --raw --events 0", 3, b"limit 0 0\n"),
+        ("simulate store.raw --raw --events 0", 3, b"origin 2 1 64 64 2 8 1000000 64 32 4 1024\nlimit 0 0\n"),
         (
             "simulate store.raw --raw --events 5",
             3,
-            b"act 0\nact 0\nact 0\ntake 0 0 0\ntake 0 0 1\n\
+            b"origin 2 1 64 64 2 8 1000000 64 32 4 1024\nact 0\nact 0\nact 0\ntake 0 0 0\ntake 0 0 1\n\
             at 5 0 store 0000000000100000 4 000000000000002a\nlimit 5 1\n",
         ),
         ("simulate store.raw --events 9 --raw", 0, TEXT),
         (
             "simulate store.raw --instructions 0 --raw",
             0,
-            b"act 0\nat 1 0 spent\nquiet 1 0\n",
+            b"origin 2 1 64 64 2 8 0 64 32 4 1024\nact 0\nat 1 0 spent\nquiet 1 0\n",
         ),
     ];
     for (line, status, text) in table {
@@ -117,41 +117,41 @@ fn a_run_tells_its_cause(rt: HostRuntime) -> Result<(), Fail> {
     let table: &[(&[u8], &[u8])] = &[
         (
             b"\x04\x00\x00\x00\x73\x00\x00\x00",
-            b"act 0\nat 1 0 trap call 0000000000010000\nquiet 1 0\n",
+            b"origin 2 1 64 64 2 8 1000000 64 32 4 1024\nact 0\nat 1 0 trap call 0000000000010000\nquiet 1 0\n",
         ),
         (
             b"\x08\x00\x00\x00\x13\x05\x10\x00\x00\x00\x00\x00",
-            b"act 0\nact 0\nat 2 0 trap illegal 0000000000010004\nquiet 2 0\n",
+            b"origin 2 1 64 64 2 8 1000000 64 32 4 1024\nact 0\nact 0\nat 2 0 trap illegal 0000000000010004\nquiet 2 0\n",
         ),
         (
             b"\x08\x00\x00\x00\xb7\x05\x10\x00\x67\x80\x05\x00",
-            b"act 0\nact 0\nact 0\nat 3 0 trap fetch 0000000000100000\nquiet 3 0\n",
+            b"origin 2 1 64 64 2 8 1000000 64 32 4 1024\nact 0\nact 0\nact 0\nat 3 0 trap fetch 0000000000100000\nquiet 3 0\n",
         ),
         (
             b"\x08\x00\x00\x00\xb7\x05\x01\x00\x67\x80\x25\x00",
-            b"act 0\nact 0\nat 2 0 trap misaligned 0000000000010004\nquiet 2 0\n",
+            b"origin 2 1 64 64 2 8 1000000 64 32 4 1024\nact 0\nact 0\nat 2 0 trap misaligned 0000000000010004\nquiet 2 0\n",
         ),
         (
             b"\x08\x00\x00\x00\xb7\x05\x10\x00\x03\xa6\x25\x00",
-            b"act 0\nact 0\nat 2 0 trap misaligned 0000000000010004\nquiet 2 0\n",
+            b"origin 2 1 64 64 2 8 1000000 64 32 4 1024\nact 0\nact 0\nat 2 0 trap misaligned 0000000000010004\nquiet 2 0\n",
         ),
         (
             b"\x08\x00\x00\x00\xb7\x05\x20\x00\x03\xa6\x05\x00",
-            b"act 0\nact 0\nat 2 0 trap unmapped 0000000000010004\nquiet 2 0\n",
+            b"origin 2 1 64 64 2 8 1000000 64 32 4 1024\nact 0\nact 0\nat 2 0 trap unmapped 0000000000010004\nquiet 2 0\n",
         ),
         (
             b"\x04\x00\x00\x00\x73\x00\x10\x00",
-            b"act 0\nat 1 0 trap break 0000000000010000\nquiet 1 0\n",
+            b"origin 2 1 64 64 2 8 1000000 64 32 4 1024\nact 0\nat 1 0 trap break 0000000000010000\nquiet 1 0\n",
         ),
         (
             b"\x0c\x00\x00\x00\x93\x08\x10\x00\x13\x05\x70\x00\x73\x00\x00\x00",
-            b"act 0\nact 0\nact 0\nat 3 0 emit 0000000000000007\nact 0\nat 4 0 trap fetch 000000000001000c\nquiet 4 0\n",
+            b"origin 2 1 64 64 2 8 1000000 64 32 4 1024\nact 0\nact 0\nact 0\nat 3 0 emit 0000000000000007\nact 0\nat 4 0 trap fetch 000000000001000c\nquiet 4 0\n",
         ),
         (
             b"\x20\x00\x00\x00\x93\x08\x10\x00\x13\x05\x70\x00\x73\x00\x00\x00\
                 \x13\x05\x15\x00\x73\x00\x00\x00\x93\x08\xd0\x05\x13\x05\x00\x00\
                 \x73\x00\x00\x00",
-            b"act 0\nact 0\nact 0\nat 3 0 emit 0000000000000007\nact 0\nact 0\nat 5 0 emit 0000000000000008\nact 0\nact 0\nact 0\nat 8 0 exit 0000000000000000\nquiet 8 0\n",
+            b"origin 2 1 64 64 2 8 1000000 64 32 4 1024\nact 0\nact 0\nact 0\nat 3 0 emit 0000000000000007\nact 0\nact 0\nat 5 0 emit 0000000000000008\nact 0\nact 0\nact 0\nat 8 0 exit 0000000000000000\nquiet 8 0\n",
         ),
     ];
     for (bytes, text) in table {
@@ -172,7 +172,7 @@ fn a_sink_may_fail_at_its_second_call(rt: HostRuntime) -> Result<(), Fail> {
     let shelf = shelf_with(alloc, b"\x04\x00\x00\x00\x73\x00\x00\x00", Vec::new(alloc))?;
     let answer = answer_with(alloc, &words, shelf, out, whole_sink(alloc));
     assert_eq!(rt; answer.status, 14);
-    assert_eq!(rt; answer.out.held(), b"act 0\nat".as_slice());
+    assert_eq!(rt; answer.out.held(), b"origin 2".as_slice());
     assert_eq!(rt; answer.err.held(), b"origin: cannot write\n".as_slice());
     Ok(())
 }
@@ -293,7 +293,7 @@ fn a_program_may_need_more_frames(rt: HostRuntime) -> Result<(), Fail> {
         (
             63,
             0,
-            b"act 0\nat 1 0 trap call 0000000000010000\nquiet 1 0\n",
+            b"origin 2 1 64 64 2 8 1000000 64 32 4 1024\nact 0\nat 1 0 trap call 0000000000010000\nquiet 1 0\n",
             b"",
         ),
         (64, 4, b"", b"origin: image NoFrames need 65 have 64\n"),

@@ -1,8 +1,0 @@
-use Rattle.std.proofs.lemmas.Grind.{common_steps}
-use Rattle.std.proofs.Common.{arith}
-use Rattle.og_cli.specs.Text.{hex}
-use Rattle.og_cli.proofs.text.push_hex.Goals as goal
-
-pub returns : goal.returns
-unfolding hex
-returns c = grind (arith, common_steps)
