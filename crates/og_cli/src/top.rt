@@ -16,8 +16,8 @@ use crate::words::{Job, WordsFault, read_words};
 use itoa::Buffer;
 use og_base::Settings;
 use og_core::machine::Machine;
-use og_trace::write_text;
 use og_io::{Shelf, ShelfFault, Sink, SinkFault, write_all, write_parts};
+use og_trace::write_text;
 use rv_hart::image::Image;
 use rv_hart::layout::LayoutFault;
 use rv_hart::raw::{RawFault, read_raw};
@@ -27,12 +27,7 @@ use std::alloc::Global;
 const MOST_IMAGE: u64 = 67_108_864;
 
 /// Writes the text of a simulation.
-fn print<K: Sink>(
-    alloc: Global,
-    settings: &Settings,
-    simulated: &Simulated,
-    out: &mut K,
-) -> Exit
+fn print<K: Sink>(alloc: Global, settings: &Settings, simulated: &Simulated, out: &mut K) -> Exit
     ensures { PrintEnds (settings_seen settings.now) simulated.now.events.items simulated.now.quiet (K.seen out.old) (K.seen out.new) result }
 {
     let text = match write_text(alloc, settings, &simulated.events, simulated.quiet) {

@@ -9,7 +9,8 @@ const STORE: &[u8] = b"\x1c\x00\x00\x00\xb7\x05\x10\x00\x13\x06\xa0\x02\x23\xa0\
     \x83\xa6\x05\x00\x93\x08\xd0\x05\x13\x05\x00\x00\x73\x00\x00\x00";
 
 // What its run prints.
-const TEXT: &[u8] = b"origin 2 1 64 64 2 8 1000000 64 32 4 1024\nact 0\nact 0\nact 0\ntake 0 0 0\ntake 0 0 1\n\
+const TEXT: &[u8] =
+    b"origin 2 1 64 64 2 8 1000000 64 32 4 1024\nact 0\nact 0\nact 0\ntake 0 0 0\ntake 0 0 1\n\
     at 5 0 store 0000000000100000 4 000000000000002a\nact 0\n\
     at 6 0 load 0000000000100000 4 = 000000000000002a\nact 0\nact 0\nact 0\n\
     at 9 0 exit 0000000000000000\nquiet 9 2\n";
@@ -87,7 +88,11 @@ fn a_run_prints_its_text(rt: HostRuntime) -> Result<(), Fail> {
     let table: &[(&str, u8, &[u8])] = &[
         ("simulate store.raw --raw", 0, TEXT),
         ("simulate store.raw --raw --nodes 1", 0, TEXT),
-        ("simulate store.raw --raw --events 0", 3, b"origin 2 1 64 64 2 8 1000000 64 32 4 1024\nlimit 0 0\n"),
+        (
+            "simulate store.raw --raw --events 0",
+            3,
+            b"origin 2 1 64 64 2 8 1000000 64 32 4 1024\nlimit 0 0\n",
+        ),
         (
             "simulate store.raw --raw --events 5",
             3,
