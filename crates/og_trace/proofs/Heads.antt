@@ -1,8 +1,8 @@
 -- The ranges of a head's numbers.
-use Rattle.std.proofs.Common.{◌≡◌, ℕ, ◌*◌, ◌≤◌, ◌&&◌, true, false, Bool, arith, refl}
+use Rattle.std.proofs.Common.{◌≡◌, ◌*◌, ◌≤◌, ◌&&◌, true, false, Bool, arith, refl}
 use Rattle.std.proofs.lemmas.Bool.Decides.{nat_tests}
 use Rattle.og_trace.specs.declared.item.Head.{Head}
-use Rattle.og_trace.specs.Grammar.{is_between, is_machine_line, is_policy_line, is_head_line}
+use Rattle.og_trace.specs.Grammar.{is_machine_line, is_policy_line, is_head_line}
 
 pub record Ranges (h : Head) : Type 0 where
   pub nodes_in_range : (1 ≤ h.nodes) × (h.nodes ≤ 128)

@@ -1,6 +1,6 @@
 -- A line that was written is read as what it was.
 use Rattle.std.specs.Prelude.{decimal, codes}
-use Rattle.std.proofs.Common.{◌≡◌, ℕ, zero, suc, ◌+◌, ◌-◌, ◌*◌, ◌/◌, ◌%◌, ◌^◌, ◌<◌, ◌≤◌, ◌&&◌, ◌||◌, List, [], ◌∷◌, ◌++◌, arith, refl, sym, ap, ap₂, subst, cond, true, false, Bool, not, nat_lt, nat_le, nat_eq, Option, None, Some}
+use Rattle.std.proofs.Common.{◌≡◌, ℕ, ◌*◌, ◌/◌, ◌%◌, ◌^◌, ◌<◌, ◌&&◌, List, [], ◌∷◌, arith, refl, ap, ap₂, true, false, Bool, nat_lt, nat_eq, Option, None, Some}
 use Rattle.std.specs.Option.{option_map, option_or}
 use Rattle.std.proofs.Math.Path.{◌∙◌}
 use Rattle.std.proofs.lemmas.Bool.Decides.{nat_tests}
@@ -14,7 +14,6 @@ use Rattle.og_line.specs.declared.AtomicOp.{AtomicOp}
 use Rattle.og_line.specs.declared.AtomicOp.TheVariants.{Swap, Add, Xor, And, Or, Min, Max, Minu, Maxu}
 use Rattle.og_line.specs.declared.Access.{Access}
 use Rattle.og_line.specs.declared.Access.TheVariants.{Load, Store, Reserve, Conditional, Atomic}
-use Rattle.og_runs.specs.declared.MsgId.{MsgId}
 use Rattle.og_runs.specs.declared.Choice.{Choice}
 use Rattle.og_runs.specs.declared.Choice.TheVariants.{Act, Take}
 use Rattle.og_runs.specs.declared.Stamp.{Stamp}
@@ -24,7 +23,7 @@ use Rattle.og_trace.specs.declared.item.Head.{Head}
 use Rattle.og_trace.specs.declared.item.End.{End}
 use Rattle.og_trace.specs.declared.item.Item.{Item}
 use Rattle.og_trace.specs.declared.item.Item.TheVariants.{Head as HeadLine, Choice as ChoiceLine, Note as NoteLine, End as EndLine}
-use Rattle.og_trace.specs.Text.{hex, page_word, frame_word, spaced, joined, op_word, cause_word, reason_word, access_words, note_words, head_words, choice_words, end_word, item_words, item_text}
+use Rattle.og_trace.specs.Text.{hex, page_word, frame_word, spaced, joined, op_word, cause_word, reason_word, access_words, note_words, head_words, choice_words, end_word, item_text}
 use Rattle.og_trace.specs.Reader.{word_in, after_word, decimal_in, hex_in, byte_in, short_in, int_in, page_in, frame_in, op_of, cause_of, reason_of, width_in, after_place, answer_in, load_in, store_in, reserve_in, conditional_in, atomic_in, access_in, hart_in, mover_in, note_in, stamp_in, take_in, end_in, head_from, item_in, item_of}
 use Rattle.og_trace.specs.Grammar.{is_number, is_actor, is_width, is_frame, is_page, is_trap, is_access_line, is_note_line, is_choice_line, is_head_line, is_machine_line, is_policy_line, is_end_line, is_in_range}
 use Rattle.og_trace.proofs.Words.{lacks, word_is, after_is, first_is, rest_is, decimal_is, after_decimal, hex_is, after_hex, frame_is, after_frame}

@@ -1,5 +1,5 @@
 -- What was read so far, line by line.
-use Rattle.std.proofs.Common.{◌≡◌, ℕ, zero, suc, ◌+◌, ◌<◌, ◌≤◌, List, [], ◌∷◌, ◌++◌, length, drop, arith, refl, sym, ap, ap₂, subst, cond, true, false, Bool, nat_eq, append_assoc, length-append, Option, None, Some}
+use Rattle.std.proofs.Common.{◌≡◌, ℕ, suc, ◌+◌, ◌<◌, ◌≤◌, List, [], ◌∷◌, ◌++◌, length, drop, arith, refl, sym, ap, subst, cond, true, false, Bool, nat_eq, append_assoc, length-append, Option, None}
 use Rattle.std.specs.Option.{option_map, option_or}
 use Rattle.std.proofs.Math.Path.{◌∙◌}
 use Rattle.std.proofs.lemmas.List.{append-nil}

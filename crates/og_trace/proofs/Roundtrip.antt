@@ -1,15 +1,12 @@
 -- The text of a run is read as that run.
 use Rattle.std.specs.Prelude.{decimal, codes}
-use Rattle.std.proofs.Common.{◌≡◌, ℕ, zero, suc, ◌+◌, ◌*◌, ◌%◌, ◌^◌, ◌<◌, ◌&&◌, List, [], ◌∷◌, ◌++◌, map, arith, refl, sym, ap, ap₂, subst, cond, true, false, Bool, not, nat_eq, Option, None, Some}
-use Rattle.std.specs.Option.{option_map}
+use Rattle.std.proofs.Common.{◌≡◌, ℕ, ◌*◌, ◌%◌, ◌^◌, ◌<◌, ◌&&◌, List, [], ◌∷◌, ◌++◌, map, arith, refl, sym, ap, ap₂, subst, cond, true, false, Bool, not, nat_eq, Option, None, Some}
 use Rattle.std.proofs.Math.Path.{◌∙◌}
-use Rattle.std.proofs.lemmas.List.{append-nil}
 use Rattle.og_base.specs.declared.Cause.{Cause}
 use Rattle.og_base.specs.declared.Cause.TheVariants.{Exit as Exited, Illegal, Fetch, Misaligned, Unmapped, Call, Break, Spent as OutOfInstructions}
 use Rattle.og_base.specs.declared.Reason.{Reason}
 use Rattle.og_base.specs.declared.Reason.TheVariants.{Busy, Shared, Worn, Full}
 use Rattle.og_base.specs.declared.Frame.{Frame}
-use Rattle.og_base.specs.declared.VPage.{VPage}
 use Rattle.og_base.specs.declared.Settings.{Settings}
 use Rattle.og_line.specs.declared.AtomicOp.{AtomicOp}
 use Rattle.og_line.specs.declared.AtomicOp.TheVariants.{Swap, Add, Xor, And, Or, Min, Max, Minu, Maxu}
@@ -22,13 +19,12 @@ use Rattle.og_runs.specs.declared.Event.{Event}
 use Rattle.og_msg.specs.declared.Note.{Note}
 use Rattle.og_msg.specs.declared.Note.TheVariants.{Access as Accessed, Emit, Exit, Trap, Spent, Begin, No, Moved, Freed}
 use Rattle.og_trace.specs.declared.item.Head.{Head}
-use Rattle.og_trace.specs.declared.item.End.{End}
 use Rattle.og_trace.specs.declared.item.Item.{Item}
 use Rattle.og_trace.specs.declared.item.Item.TheVariants.{Head as HeadLine, Choice as ChoiceLine, Note as NoteLine, End as EndLine}
 use Rattle.og_trace.specs.declared.item.Place.{Place}
-use Rattle.og_trace.specs.declared.item.Place.TheVariants.{First, Middle, Ended}
-use Rattle.og_trace.specs.Text.{hex, page_word, frame_word, spaced, joined, op_word, cause_word, reason_word, access_words, note_words, head_words, choice_words, end_word, item_words, item_text, items_text, with_note, with_events, items_of, text_of, end_of, head_of}
-use Rattle.og_trace.specs.Grammar.{is_number, is_actor, is_width, is_frame, is_page, is_trap, is_access_line, is_note_line, is_choice_line, is_head_line, is_machine_line, is_policy_line, is_end_line, is_in_range, lines_of, before_lines, may_stand, place_after, place_after_all, IsLine, IsOutside, AreLines, IsFirstOutside, IsRead, IsWritten, AllInRange, choices_in, notes_in, head_in, stamped_notes, with_stamped}
+use Rattle.og_trace.specs.declared.item.Place.TheVariants.{First, Middle}
+use Rattle.og_trace.specs.Text.{hex, frame_word, spaced, joined, op_word, cause_word, reason_word, access_words, note_words, head_words, choice_words, end_word, item_words, item_text, items_text, with_note, with_events, items_of, text_of, end_of}
+use Rattle.og_trace.specs.Grammar.{is_number, is_actor, is_frame, is_page, is_access_line, is_note_line, is_choice_line, is_head_line, is_machine_line, is_policy_line, is_in_range, lines_of, before_lines, may_stand, place_after, place_after_all, IsLine, IsOutside, AreLines, IsFirstOutside, IsRead, IsWritten, AllInRange, choices_in, notes_in, head_in, stamped_notes, with_stamped}
 use Rattle.og_trace.proofs.Words.{lacks, lacks_append, decimal_lacks, hex_lacks, frame_lacks}
 use Rattle.og_trace.proofs.Lines.{and_left, and_right, number_fits, actor_fits, width_fits, frame_fits, machine_fits, policy_fits, Machine, Policy}
 use Rattle.og_trace.proofs.Uniqueness.{one_item}

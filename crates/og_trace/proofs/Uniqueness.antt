@@ -1,14 +1,13 @@
 -- A line is the text of one item at most.
-use Rattle.std.proofs.Common.{◌≡◌, ℕ, ◌+◌, List, [], ◌∷◌, ◌++◌, length, true, false, Bool, refl, sym, ap, ap₂, subst, Option, None, Some}
+use Rattle.std.proofs.Common.{◌≡◌, ℕ, List, true, false, sym, ap, subst, None, Some}
 use Rattle.std.proofs.Math.Path.{◌∙◌}
 use Rattle.std.specs.Str.{bytes_eq}
 use Rattle.std.proofs.lemmas.Slice.Eq.{bytes_eq-Decides}
 use Rattle.og_trace.specs.declared.item.Item.{Item}
 use Rattle.og_trace.specs.declared.item.Place.{Place}
-use Rattle.og_trace.specs.declared.item.Place.TheVariants.{First}
 use Rattle.og_trace.specs.Text.{item_text}
 use Rattle.og_trace.specs.Reader.{item_of}
-use Rattle.og_trace.specs.Grammar.{is_in_range, may_stand, place_after, place_after_all, IsLine, IsOutside, AreLines, IsFirstOutside, lines_of}
+use Rattle.og_trace.specs.Grammar.{is_in_range, may_stand, IsLine, IsOutside}
 use Rattle.og_trace.proofs.Lines.{item_read}
 
 -- a line that an item wrote is read as that item

@@ -1,6 +1,6 @@
 -- A word that was written is read: it has no blank, and its number is the number.
 use Rattle.std.specs.Prelude.{decimal, codes}
-use Rattle.std.proofs.Common.{◌≡◌, ℕ, zero, suc, ◌+◌, ◌-◌, ◌*◌, ◌/◌, ◌%◌, ◌^◌, ◌<◌, ◌≤◌, ◌&&◌, List, [], ◌∷◌, ◌++◌, length, drop, arith, refl, sym, ap, ap₂, subst, cond, true, false, Bool, not, nat_lt, nat_eq, append_assoc}
+use Rattle.std.proofs.Common.{◌≡◌, ℕ, zero, suc, ◌+◌, ◌*◌, ◌/◌, ◌%◌, ◌^◌, ◌<◌, ◌≤◌, ◌&&◌, List, [], ◌∷◌, ◌++◌, drop, arith, refl, sym, ap, ap₂, cond, true, false, Bool, not, nat_lt, nat_eq, append_assoc}
 use Rattle.std.proofs.Math.Path.{◌∙◌}
 use Rattle.std.proofs.Math.Nat.{div-div-eq-div-mul, div-le_self}
 use Rattle.std.proofs.lemmas.Bool.Decides.{nat_tests}

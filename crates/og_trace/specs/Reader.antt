@@ -1,6 +1,6 @@
 -- How a line is read: what it must say if it is a line of a text at all. Whether it is, is seen by writing what was
 -- read and comparing. So these definitions promise nothing of other lines.
-use Rattle.std.specs.Prelude.{◌≡◌, ℕ, suc, zero, ◌+◌, ◌-◌, ◌*◌, ◌^◌, ◌/◌, ◌%◌, nat_lt, nat_eq, Bool, true, false, cond, List, [], ◌∷◌, drop, codes, Option, None, Some}
+use Rattle.std.specs.Prelude.{ℕ, ◌+◌, ◌-◌, ◌*◌, ◌^◌, ◌/◌, ◌%◌, nat_lt, nat_eq, Bool, true, false, cond, List, [], ◌∷◌, drop, codes, Option, None, Some}
 use Rattle.std.specs.Option.{option_map, option_or}
 use Rattle.std.specs.Str.{bytes_eq}
 use Rattle.og_base.specs.declared.Cause.{Cause}
@@ -11,9 +11,7 @@ use Rattle.og_base.specs.declared.Frame.{Frame}
 use Rattle.og_base.specs.declared.VPage.{VPage}
 use Rattle.og_line.specs.declared.AtomicOp.{AtomicOp}
 use Rattle.og_line.specs.declared.AtomicOp.TheVariants.{Swap, Add, Xor, And, Or, Min, Max, Minu, Maxu}
-use Rattle.og_line.specs.declared.Access.{Access}
 use Rattle.og_line.specs.declared.Access.TheVariants.{Load, Store, Reserve, Conditional, Atomic}
-use Rattle.og_runs.specs.declared.MsgId.{MsgId}
 use Rattle.og_runs.specs.declared.Choice.{Choice}
 use Rattle.og_runs.specs.declared.Choice.TheVariants.{Act, Take}
 use Rattle.og_runs.specs.declared.Stamp.{Stamp}

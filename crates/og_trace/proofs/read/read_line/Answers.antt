@@ -1,4 +1,4 @@
-use Rattle.std.proofs.Common.{◌≡◌, sym, ap, true, false, Bool, not}
+use Rattle.std.proofs.Common.{sym}
 use Rattle.std.proofs.Math.Path.{◌∙◌}
 use Rattle.og_trace.proofs.Uniqueness.{not_read, not_standing, not_in_range, not_written}
 use Rattle.og_trace.proofs.read.read_line.Goals as goal

@@ -1,9 +1,9 @@
-use Rattle.std.proofs.Common.{rules, ◌≡◌, ◌+◌, ◌<◌, arith, subst, sym, Option, Some, List, ℕ, length}
+use Rattle.std.proofs.Common.{◌≡◌, ◌+◌, ◌<◌, arith, subst, sym, Option, ℕ, length}
 use Rattle.std.specs.Prelude.{IfSome}
 use Rattle.std.proofs.lemmas.Bool.Decides.{nat_tests}
 use Rattle.og_trace.specs.declared.item.Item.{Item}
 use Rattle.og_trace.specs.declared.item.Place.{Place}
-use Rattle.og_trace.specs.Grammar.{IsLine, IsOutside, IsFirstOutside, IsRead, place_after}
+use Rattle.og_trace.specs.Grammar.{IsLine, IsOutside, IsFirstOutside}
 use Rattle.og_trace.proofs.Roundtrip.{accepted, as_written}
 use Rattle.og_trace.proofs.Readings.{IsReading, at_start, one_more, first_outside, all_read}
 use Rattle.og_trace.proofs.read.read_text.Goals as goal

@@ -1,4 +1,4 @@
-use Rattle.std.proofs.Common.{◌≡◌, length, ◌≤◌, ◌+◌}
+use Rattle.std.proofs.Common.{length, ◌≤◌, ◌+◌}
 use Rattle.og_trace.proofs.Readings.{IsReading}
 use Rattle.og_trace.proofs.read.read_text.Given as goal
 

@@ -1,6 +1,5 @@
-use Rattle.std.proofs.Common.{◌≡◌, ℕ, List, ◌∷◌, ◌<◌, length, drop, subst, sym, ap, ap₂}
+use Rattle.std.proofs.Common.{ℕ, List, ◌∷◌, ◌<◌, length, drop, subst, sym, ap, ap₂}
 use Rattle.std.proofs.Math.Path.{◌∙◌}
-use Rattle.og_trace.specs.Reader.{from}
 use Rattle.og_trace.specs.Grammar.{lines_of}
 use Rattle.og_trace.proofs.Readings.{first_line, shorter}
 use Rattle.og_trace.proofs.read.split_line.Goals as goal
