@@ -17,10 +17,10 @@ use Rattle.og_runs.proofs.Shown.{ShownRun, shown_run}
 use Rattle.og_runs.proofs.Stated.{start_shows}
 use Rattle.og_runs.proofs.RunLaws.{start_sound}
 use Rattle.og_runs.proofs.Back.{same_choices}
-use Rattle.rv_hart.specs.Layout.{below}
-use Rattle.rv_hart.proofs.Pages.{below_length, below_at}
+use Rattle.og_base.specs.Numbers.{below}
+use Rattle.og_image.proofs.Pages.{below_length, below_at}
 use Rattle.og_core.specs.Start.{start_node}
-use Rattle.rv_hart.specs.Image.{ImageState}
+use Rattle.og_image.specs.Image.{ImageState}
 use Rattle.og_msg.specs.declared.Kind.{Kind}
 use Rattle.og_msg.specs.declared.Note.{Note}
 use Rattle.og_core.specs.Node.{NodeState, Setup, rules}
@@ -36,7 +36,7 @@ use Rattle.og_core.specs.HartRuns.{flat_end}
 use Rattle.og_core.proofs.Sound.{Sound}
 use Rattle.og_core.proofs.Reached.{seat_zero}
 use Rattle.og_flat.specs.Flat.{Flat, flat_start}
-use Rattle.rv_hart.specs.Image.{start_byte}
+use Rattle.og_image.specs.Image.{start_byte}
 use Rattle.og_cli.specs.Simulate.{IsAdvanced, IsSimulated, LeadsTo, CopiesAreFlat}
 
 -- where nothing is next, a simulation ends

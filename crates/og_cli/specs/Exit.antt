@@ -2,9 +2,9 @@
 use Rattle.std.specs.Prelude.{◌≡◌, ℕ, ◌*◌, ◌⊎◌, Bool, true, false, nat_lt, nat_eq, ◌&&◌, List, [], ◌∷◌, ◌++◌, length, cond, codes, decimal, Option, None, Some, IfSome, IsSomeAnd}
 use Rattle.og_base.specs.Settings.{SettingsState}
 use Rattle.og_runs.specs.declared.Event.{Event}
-use Rattle.rv_hart.specs.Image.{ImageState}
-use Rattle.rv_hart.specs.Layout.{pages_of}
-use Rattle.rv_hart.specs.Raw.{is_out, raw_elf}
+use Rattle.og_image.specs.Image.{ImageState, image_of}
+use Rattle.og_image.specs.Layout.{pages_of}
+use Rattle.og_elf.specs.Raw.{is_raw_out, raw_elf}
 use Rattle.og_msg.specs.declared.Note.{Note}
 use Rattle.og_core.specs.Machine.{start_of}
 use Rattle.og_cli.specs.declared.exit.Exit.{Exit}
@@ -48,8 +48,8 @@ error_line name exit.Quiet = []
 -- ------------------------------------------------------------ the image
 
 -- the program of a raw file, for so many nodes
-abbrev pub image_of : List ℕ → ℕ → ImageState
-image_of bytes nodes = record { entry = (raw_elf bytes).entry; nodes = nodes; segments = (raw_elf bytes).segments }
+abbrev pub raw_image : List ℕ → ℕ → ImageState
+raw_image bytes nodes = image_of (raw_elf bytes).entry (raw_elf bytes).segments nodes
 
 abbrev pub frames_fault : ℕ → ℕ → Option ImageFault
 frames_fault need have = cond (nat_lt have need) (Some (fault.NoFrames need have)) None
@@ -57,7 +57,7 @@ frames_fault need have = cond (nat_lt have need) (Some (fault.NoFrames need have
 -- why an image isn't run: the first in order, none where it is
 abbrev pub image_fault : List ℕ → SettingsState → Option ImageFault
 image_fault bytes settings =
-    cond (nat_lt 67108864 (length bytes)) (Some fault.TooLong) (cond (is_out bytes) (Some fault.Raw) (frames_fault (length (pages_of (image_of bytes settings.nodes))) (settings.nodes * settings.frames)))
+    cond (nat_lt 67108864 (length bytes)) (Some fault.TooLong) (cond (is_raw_out bytes) (Some fault.Raw) (frames_fault (length (pages_of (raw_image bytes settings.nodes))) (settings.nodes * settings.frames)))
 
 -- ------------------------------------------------------------ what becomes of a sink
 
@@ -79,7 +79,7 @@ CutByWant text old new = AppendsPrefix text old.held new.held × Rises old.wants
 pub record IsRunText (bytes : List ℕ) (settings : SettingsState) (most : ℕ) (text : List ℕ) (quiet : Bool) : Type 0 where
   pub accepted : image_fault bytes settings ≡ None
   pub events : List (Event Note)
-  pub run : IsSimulated (image_of bytes settings.nodes) (start_of (image_of bytes settings.nodes) settings) most events quiet
+  pub run : IsSimulated (raw_image bytes settings.nodes) (start_of (raw_image bytes settings.nodes) settings) most events quiet
   pub text_is : text ≡ text_with (head_seen settings) events quiet
 
 -- the whole text was appended

@@ -6,7 +6,7 @@ use Rattle.og_runs.specs.declared.Event.{Event}
 use Rattle.og_runs.specs.declared.Seat.{Seat}
 use Rattle.og_runs.specs.Runs.{choices, IsSorted, Strict}
 use Rattle.og_runs.specs.World.{World, WorldRun}
-use Rattle.rv_hart.specs.Image.{ImageState, start_byte}
+use Rattle.og_image.specs.Image.{ImageState, start_byte}
 use Rattle.og_msg.specs.declared.Kind.{Kind}
 use Rattle.og_msg.specs.declared.Note.{Note}
 use Rattle.og_core.specs.Node.{NodeState, rules}

@@ -1,8 +1,8 @@
 //! The command from its words to its answer.
 
 ghost use Rattle.std.specs.Prelude.{◌≡◌, ◌≤◌, ℕ, [], ◌+◌, ◌*◌, ◌^◌, ◌⊎◌, length, IfOk, IfErr, OnOk, OnErr, true, false, string_bytes};
-ghost use Rattle.rv_hart.specs.Layout.{pages_of};
-ghost use Rattle.rv_hart.specs.Raw.{is_out};
+ghost use Rattle.og_image.specs.Layout.{pages_of};
+ghost use Rattle.og_elf.specs.Raw.{is_raw_out};
 ghost use Rattle.og_base.specs.Settings.{settings_seen};
 ghost use Rattle.og_core.specs.Machine.{start_of};
 ghost use Rattle.og_io.specs.Outside.{TellsLongFile, parts_text, texts};
@@ -18,9 +18,9 @@ use og_base::Settings;
 use og_core::machine::Machine;
 use og_io::{Shelf, ShelfFault, Sink, SinkFault, write_all, write_parts};
 use og_trace::write_text;
-use rv_hart::image::Image;
-use rv_hart::layout::LayoutFault;
-use rv_hart::raw::{RawFault, read_raw};
+use og_image::Image;
+use og_image::LayoutFault;
+use og_elf::{RawFault, read_raw};
 use std::alloc::Global;
 
 /// The most bytes of an image file.
@@ -59,7 +59,7 @@ fn run_bytes<K: Sink>(
     requires one { settings.now.nodes ≡ 1 }
     requires within { length bytes.now ≤ 67108864 }
     ensures ends { RunEnds bytes.now (settings_seen settings.now) events (K.seen out.old) (K.seen out.new) result }
-    ensures raw { is_out bytes.now ≡ true → result ≡ Exit.Image ImageFault.Raw }
+    ensures raw { is_raw_out bytes.now ≡ true → result ≡ Exit.Image ImageFault.Raw }
 {
     let elf = match read_raw(alloc, bytes) {
         Ok(elf) => elf,

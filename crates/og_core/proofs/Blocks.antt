@@ -7,11 +7,11 @@ use Rattle.std.proofs.lemmas.Bool.Decides.{nat_tests}
 use Rattle.std.proofs.lemmas.Grind.{common_steps}
 use Rattle.std.proofs.lemmas.Option.{gets}
 use Rattle.std.proofs.lemmas.Bool.{cases_Bool}
-use Rattle.rv_hart.proofs.Pages.{rises}
+use Rattle.og_image.proofs.Pages.{rises}
 use Rattle.std.proofs.lemmas.List.Quantifiers.{position-Some}
 use Rattle.og_base.specs.declared.Block.{Block}
 use Rattle.og_base.specs.declared.Frame.{Frame}
-use Rattle.rv_hart.specs.Layout.{LayoutState, frame_at}
+use Rattle.og_image.specs.Layout.{LayoutState, frame_at}
 use Rattle.og_core.specs.Node.{block_at, block_number, home_number}
 
 -- reading a list after one write

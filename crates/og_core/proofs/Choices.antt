@@ -17,7 +17,7 @@ use Rattle.og_flight.specs.Flight.{first_sent, sooner_of, sent_before}
 use Rattle.og_runs.specs.declared.MsgId.{MsgId}
 use Rattle.og_runs.specs.World.{World, find, without}
 use Rattle.og_core.proofs.Worlds.{left_none}
-use Rattle.rv_hart.specs.Image.{ImageState, start_byte}
+use Rattle.og_image.specs.Image.{ImageState, start_byte}
 use Rattle.og_msg.specs.declared.Kind.{Kind}
 use Rattle.og_core.specs.Node.{NodeState, can_act_of}
 use Rattle.og_core.specs.HartRuns.{flat_end}

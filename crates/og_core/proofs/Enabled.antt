@@ -15,7 +15,7 @@ use Rattle.og_runs.specs.declared.MsgId.{MsgId}
 use Rattle.og_runs.specs.declared.Seat.{Seat}
 use Rattle.og_runs.specs.Runs.{Outcome}
 use Rattle.og_runs.specs.World.{World, world_step, world_move, world_move_with, world_take, find}
-use Rattle.rv_hart.specs.Image.{ImageState}
+use Rattle.og_image.specs.Image.{ImageState}
 use Rattle.og_msg.specs.declared.Kind.{Kind}
 use Rattle.og_msg.specs.declared.Note.{Note}
 use Rattle.og_core.specs.Node.{NodeState, Setup, rules, act_of, take_of, can_act_of, can_act_by, by_state}

@@ -7,7 +7,7 @@ use Rattle.og_runs.specs.declared.Event.{Event}
 use Rattle.rv_hart.specs.declared.hart.Need.{Need}
 use Rattle.rv_hart.specs.declared.hart.Need.TheVariants as need
 use Rattle.rv_hart.specs.Hart.{HartState, need_of, finish_of}
-use Rattle.rv_hart.specs.Image.{ImageState}
+use Rattle.og_image.specs.Image.{ImageState}
 use Rattle.rv_hart.proofs.HartFacts.{finish_keeps, finish_left}
 use Rattle.og_msg.specs.declared.Note.{Note}
 use Rattle.og_msg.specs.declared.Note.TheVariants as note

@@ -18,7 +18,7 @@ use Rattle.og_runs.specs.Runs.{Outcome, posted}
 use Rattle.og_runs.specs.World.{placed_all}
 use Rattle.rv_hart.specs.declared.hart.Need.{Need}
 use Rattle.rv_hart.specs.declared.hart.Need.TheVariants as need
-use Rattle.rv_hart.specs.Image.{ImageState}
+use Rattle.og_image.specs.Image.{ImageState}
 use Rattle.rv_hart.specs.Hart.{HartState, need_of, finish_of, halt_of}
 use Rattle.og_directory.specs.declared.entry.State.{State}
 use Rattle.og_directory.specs.declared.entry.State.TheVariants.{Unowned, Exclusive}

@@ -10,8 +10,8 @@ use Rattle.og_runs.specs.declared.MsgId.{MsgId}
 use Rattle.og_runs.specs.declared.Seat.{Seat}
 use Rattle.og_runs.specs.World.{world_step, find, without}
 use Rattle.og_base.specs.Settings.{SettingsState}
-use Rattle.rv_hart.specs.Image.{ImageState}
-use Rattle.rv_hart.specs.Layout.{LayoutState}
+use Rattle.og_image.specs.Image.{ImageState}
+use Rattle.og_image.specs.Layout.{LayoutState}
 use Rattle.og_msg.specs.declared.Kind.{Kind}
 use Rattle.og_msg.specs.declared.Note.{Note}
 use Rattle.og_core.specs.Node.{NodeState, rules, act_of, take_of, can_act_of, setup_of}

@@ -6,7 +6,7 @@ use Rattle.og_runs.specs.declared.Event.{Event}
 use Rattle.rv_hart.specs.declared.hart.Need.{Need}
 use Rattle.rv_hart.specs.declared.hart.Need.TheVariants as need
 use Rattle.rv_hart.specs.Hart.{HartState, need_of}
-use Rattle.rv_hart.specs.Image.{ImageState}
+use Rattle.og_image.specs.Image.{ImageState}
 use Rattle.og_flat.specs.Flat.{flat_answer}
 use Rattle.og_line.specs.declared.Access.{Access}
 use Rattle.og_msg.specs.declared.Note.{Note}

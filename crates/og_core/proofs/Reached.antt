@@ -18,17 +18,17 @@ use Rattle.og_runs.proofs.Shown.{slice_get_some}
 use Rattle.rv_hart.specs.declared.hart.Need.{Need}
 use Rattle.rv_hart.specs.declared.hart.Need.TheVariants as need
 use Rattle.rv_hart.specs.Hart.{HartState, start_of, need_of}
-use Rattle.rv_hart.specs.Layout.{frame_at}
+use Rattle.og_image.specs.Layout.{frame_at}
 use Rattle.rv_hart.proofs.HartFacts.{need_mapped}
-use Rattle.rv_hart.proofs.Placed.{placed_page}
+use Rattle.og_image.proofs.Placed.{placed_page}
 use Rattle.og_msg.specs.declared.Kind.TheVariants.{ReadEx, ExclusiveReply}
 use Rattle.og_core.proofs.Blocks.{Place, place_of, numbers}
-use Rattle.rv_hart.specs.Image.{ImageState, start_byte}
-use Rattle.rv_hart.specs.Layout.{LayoutState, pages_of}
-use Rattle.rv_hart.proofs.Pages.{pages_rise}
+use Rattle.og_image.specs.Image.{ImageState, start_byte}
+use Rattle.og_image.specs.Layout.{LayoutState, pages_of}
+use Rattle.og_image.proofs.Pages.{pages_rise}
 use Rattle.og_msg.specs.declared.Kind.{Kind}
 use Rattle.og_msg.specs.declared.Note.{Note}
-use Rattle.rv_hart.specs.Image.{is_data_of}
+use Rattle.og_image.specs.Image.{is_data_of}
 use Rattle.og_core.specs.Node.{NodeState, Setup, rules, act_of, take_of, can_act_of, can_act_by, by_state, by_need, by_block, by_copy, block_at, block_number, home_number, IsLowNode, IsLowMessage}
 use Rattle.og_core.specs.Start.{stack_end}
 use Rattle.og_core.specs.Machine.{MachineState, IsMade, IsYoung, IsFor, MadeBy, start_world, new_seat, setup_in}

@@ -5,9 +5,9 @@ use Rattle.std.proofs.lemmas.Option.{slice_get-map, slice_get-get_or, slice_get_
 use Rattle.std.proofs.lemmas.List.{length-map, length-replicate, get_or-replicate}
 use Rattle.og_line.specs.declared.Line.{Line}
 use Rattle.og_flat.specs.Flat.{flat_start, start_line}
-use Rattle.rv_hart.specs.Image.{ImageState, start_byte}
-use Rattle.rv_hart.specs.Layout.{below}
-use Rattle.rv_hart.proofs.Pages.{below_length, below_at}
+use Rattle.og_image.specs.Image.{ImageState, start_byte}
+use Rattle.og_base.specs.Numbers.{below}
+use Rattle.og_image.proofs.Pages.{below_length, below_at}
 use Rattle.og_directory.specs.declared.entry.State.TheVariants.{Unowned}
 use Rattle.og_core.specs.Node.{Setup}
 use Rattle.og_core.specs.Start.{home_lines, home_line_of, placed_line}

@@ -7,7 +7,7 @@ use Rattle.og_runs.specs.declared.Event.{Event}
 use Rattle.rv_hart.specs.declared.hart.Need.{Need}
 use Rattle.rv_hart.specs.declared.hart.Need.TheVariants as need
 use Rattle.rv_hart.specs.Hart.{HartState, start_of, need_of, finish_of, halt_of}
-use Rattle.rv_hart.specs.Image.{ImageState, start_byte}
+use Rattle.og_image.specs.Image.{ImageState, start_byte}
 use Rattle.og_msg.specs.declared.Note.{Note}
 use Rattle.og_msg.specs.declared.Note.TheVariants as note
 use Rattle.og_core.specs.Node.{Setup, stop_note}

@@ -6,7 +6,7 @@ use Rattle.og_flat.specs.Flat.{Flat, flat_answer, flat_next}
 use Rattle.og_runs.specs.declared.Event.{Event}
 use Rattle.rv_hart.specs.declared.hart.Need.TheVariants as need
 use Rattle.rv_hart.specs.Hart.{HartState, need_of, finish_of, halt_of}
-use Rattle.rv_hart.specs.Image.{ImageState}
+use Rattle.og_image.specs.Image.{ImageState}
 use Rattle.og_msg.specs.declared.Note.{Note}
 use Rattle.og_msg.specs.declared.Note.TheVariants as note
 use Rattle.og_core.specs.Node.{stop_note}

@@ -9,7 +9,7 @@ use Rattle.og_runs.specs.declared.Seat.{Seat}
 use Rattle.og_runs.specs.World.{world_step}
 use Rattle.rv_hart.specs.declared.hart.Need.TheVariants as need
 use Rattle.rv_hart.specs.Hart.{HartState, need_of}
-use Rattle.rv_hart.specs.Image.{ImageState, start_byte}
+use Rattle.og_image.specs.Image.{ImageState, start_byte}
 use Rattle.og_msg.specs.declared.Note.{Note}
 use Rattle.og_msg.specs.declared.Note.TheVariants as note
 use Rattle.og_core.specs.Node.{NodeState, Setup, rules}

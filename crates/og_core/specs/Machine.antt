@@ -14,8 +14,10 @@ use Rattle.og_runs.specs.declared.Event.{Event}
 use Rattle.og_runs.specs.declared.Seat.{Seat}
 use Rattle.og_runs.specs.Runs.{Outcome, posted, clock_after, event_of}
 use Rattle.og_runs.specs.World.{World, WorldRun, find, seat_after, placed_all}
-use Rattle.rv_hart.specs.Image.{ImageState, IsLoadable}
-use Rattle.rv_hart.specs.Layout.{LayoutState, layout_of, pages_of, below}
+use Rattle.og_image.specs.Image.{ImageState}
+use Rattle.og_elf.specs.Segment.{IsLoadable}
+use Rattle.og_image.specs.Layout.{LayoutState, layout_of, pages_of}
+use Rattle.og_base.specs.Numbers.{below}
 use Rattle.og_msg.specs.declared.Kind.{Kind}
 use Rattle.og_msg.specs.declared.Note.{Note}
 use Rattle.og_core.specs.Node.{NodeState, Gives, Setup, setup_of, rules, can_act_of, IsLowNode, IsLowMessage}

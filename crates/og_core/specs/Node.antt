@@ -18,8 +18,8 @@ use Rattle.og_runs.specs.Runs.{Outcome, Rules}
 use Rattle.rv_hart.specs.declared.hart.Need.{Need}
 use Rattle.rv_hart.specs.declared.hart.Need.TheVariants as need
 use Rattle.rv_hart.specs.Hart.{HartState, need_of, finish_of, halt_of}
-use Rattle.rv_hart.specs.Image.{ImageState}
-use Rattle.rv_hart.specs.Layout.{LayoutState, first_frame}
+use Rattle.og_image.specs.Image.{ImageState}
+use Rattle.og_image.specs.Layout.{LayoutState, first_frame}
 use Rattle.og_directory.specs.declared.entry.State.{State}
 use Rattle.og_directory.specs.declared.entry.State.TheVariants.{Unowned, Exclusive}
 use Rattle.og_msg.specs.declared.Kind.{Kind}

@@ -5,8 +5,9 @@ use Rattle.og_line.specs.declared.Line.{Line}
 use Rattle.og_line.specs.Line.{zero_line}
 use Rattle.og_flat.specs.Flat.{start_line}
 use Rattle.rv_hart.specs.Hart.{start_of}
-use Rattle.rv_hart.specs.Image.{ImageState, start_byte, stack_page}
-use Rattle.rv_hart.specs.Layout.{LayoutState, below}
+use Rattle.og_image.specs.Image.{ImageState, start_byte, stack_page}
+use Rattle.og_image.specs.Layout.{LayoutState}
+use Rattle.og_base.specs.Numbers.{below}
 use Rattle.og_directory.specs.declared.entry.State.TheVariants.{Unowned}
 use Rattle.og_core.specs.Node.{NodeState, Setup}
 

@@ -5,7 +5,8 @@ ghost use Rattle.og_runs.specs.Runs.{posted};
 ghost use Rattle.og_runs.specs.World.{world_step, find, placed_all};
 ghost use Rattle.og_runs.specs.declared.Choice.TheVariants.{Act, Take};
 ghost use Rattle.og_base.specs.Settings.{settings_seen};
-ghost use Rattle.rv_hart.specs.Layout.{below, layout_of, pages_of};
+ghost use Rattle.og_image.specs.Layout.{layout_of, pages_of};
+ghost use Rattle.og_base.specs.Numbers.{below};
 ghost use Rattle.og_core.specs.Node.{letters_of, setup_of, rules, act_of, take_of, IsLowNode, IsLowMessage, RunsWhereFilled};
 ghost use Rattle.og_core.specs.Machine.{MachineState, Moves, setup_in, IsMade, IsYoung, refusal_of, is_stopped, is_quiet, start_of, new_seat};
 ghost use Rattle.og_core.specs.Simulation.{acts_in, enabled_of, drain_of, next_choice};
@@ -17,8 +18,8 @@ use og_base::{
 use og_flight::Flight;
 use og_msg::{Event, Kind, Msg};
 use og_runs::Seat;
-use rv_hart::image::Image;
-use rv_hart::layout::{Layout, LayoutFault};
+use og_image::Image;
+use og_image::{Layout, LayoutFault};
 use std::alloc::Global;
 use std::marker::Model;
 

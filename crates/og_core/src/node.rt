@@ -18,8 +18,8 @@ use og_flat::machine::start_line;
 use og_line::{Access, Line, Reservation};
 use og_msg::{Kind, Letter, Msg, Note};
 use rv_hart::hart::{Hart, Need};
-use rv_hart::image::Image;
-use rv_hart::layout::Layout;
+use og_image::Image;
+use og_image::Layout;
 use std::alloc::Global;
 use std::marker::Model;
 

@@ -3,14 +3,14 @@
 ghost use Rattle.std.specs.Prelude.{◌≡◌, ◌+◌, ◌*◌, ◌/◌, ◌<◌, ◌^◌, ℕ, ◌++◌, ◌↔◌, IfOk, IfSome, IsTrue, OnOk, replicate, slice_index, Some, None, true, length};
 ghost use Rattle.std.specs.List.{flat_map};
 ghost use Rattle.og_line.specs.Access.{HasWidth, IsAligned};
-ghost use Rattle.rv_hart.specs.Image.{start_byte, is_page};
+ghost use Rattle.og_image.specs.Image.{start_byte, is_page};
 ghost use Rattle.og_flat.specs.Flat.{Flat, block_of, flat_answer, flat_next, flat_start, start_line, start_lines};
 ghost use Rattle.og_flat.specs.Kept.{IsYoung, Keeps, Takes, has_block, place_in};
 
 use og_base::{NoMemory, NodeId};
 use og_line::{Access, LINE_BYTES, Line, Reservation};
-use rv_hart::image::Image;
-use rv_hart::layout::all_pages;
+use og_image::Image;
+use og_image::all_pages;
 use std::alloc::Global;
 use std::marker::Model;
 

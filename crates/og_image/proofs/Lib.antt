@@ -2,3 +2,4 @@ pub mod Numbers
 pub mod Ordering
 pub mod Pages
 pub mod Places
+pub mod Placed

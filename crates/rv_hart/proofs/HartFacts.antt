@@ -9,7 +9,7 @@ use Rattle.rv_decode.specs.declared.Instr.{Instr}
 use Rattle.rv_decode.specs.Rows.{decode_of}
 use Rattle.rv_hart.specs.declared.hart.Need.{Need}
 use Rattle.rv_hart.specs.declared.hart.Need.TheVariants as need
-use Rattle.rv_hart.specs.Image.{ImageState, fetch_of, is_data_of}
+use Rattle.og_image.specs.Image.{ImageState, fetch_of, is_data_of}
 use Rattle.rv_hart.specs.Hart.{HartState, need_of, fetched_need, decoded_need, finish_of, finished, instr_of}
 use Rattle.rv_hart.proofs.Needs.{some_left, need_reaches}
 

@@ -13,7 +13,7 @@ use Rattle.rv_decode.specs.declared.Instr.{Instr}
 use Rattle.rv_decode.specs.Rows.{decode_of}
 use Rattle.rv_hart.specs.declared.hart.Need.{Need}
 use Rattle.rv_hart.specs.declared.hart.Need.TheVariants as need
-use Rattle.rv_hart.specs.Image.{ImageState, fetch_of, is_data_of}
+use Rattle.og_image.specs.Image.{ImageState, fetch_of, is_data_of}
 use Rattle.rv_hart.specs.Effect.{access_of}
 use Rattle.rv_hart.specs.Hart.{HartState, need_of, fetched_need, decoded_need, op_need, call_need, target_need, target_in, data_need, access_in, access_need, constant_of}
 

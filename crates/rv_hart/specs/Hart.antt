@@ -12,7 +12,7 @@ use Rattle.rv_decode.specs.declared.Instr.{Instr}
 use Rattle.rv_decode.specs.Rows.{decode_of}
 use Rattle.rv_hart.specs.declared.hart.Need.{Need}
 use Rattle.rv_hart.specs.declared.hart.Need.TheVariants as need
-use Rattle.rv_hart.specs.Image.{ImageState, fetch_of, read_only_of, is_data_of}
+use Rattle.og_image.specs.Image.{ImageState, fetch_of, read_only_of, is_data_of}
 use Rattle.rv_hart.specs.Effect.{plus, value_of, access_of, target_of}
 
 -- what contracts see of a hart: 32 registers, the pc, the instructions that are left, and why it stopped

@@ -9,11 +9,11 @@ ghost use Rattle.og_line.specs.declared.Access.{Access};
 ghost use Rattle.og_line.specs.Access.{HasWidth, IsAligned, addr_of, width_of, operand_of};
 ghost use Rattle.rv_decode.specs.Rows.{HasRegisters};
 ghost use Rattle.rv_hart.specs.Work.{is_width_known, work_of};
-ghost use Rattle.rv_hart.specs.Image.{is_data_of};
+ghost use Rattle.og_image.specs.Image.{is_data_of};
 ghost use Rattle.rv_hart.specs.Hart.{AnswerIgnored, HartState, IsStop, call_need, constant_of, access_need, data_need, target_need, instr_of, imm_of, first_source, second_source, access_in, target_in, with_result, start_of, need_of, finish_of, halt_of};
 
 use crate::compute::{jump_target, memory_access, result_value};
-use crate::image::Image;
+use og_image::Image;
 use crate::work::{Work, find_work};
 use og_base::{Cause, NodeId};
 use og_line::Access;
@@ -265,7 +265,7 @@ fn access_need(image: &Image, access: Access) -> Need
 
 /// A load of bytes that no segment may write: its answer.
 fn constant(image: &Image, access: &Access) -> Option<u64>
-    requires { width_of access.now ≤ 8 }
+    requires { HasWidth access.now }
     ensures { result ≡ constant_of image.now access.now }
 {
     match *access {

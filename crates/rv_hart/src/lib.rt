@@ -1,17 +1,12 @@
-//! One hart of RV64IA and the program that it runs.
+//! One hart of RV64IA: what it needs next, and what becomes of it when the need is met.
 //!
-//! The modules `image`, `layout` and `raw` keep the table of images: which segments a program has,
-//! what its memory is at the start, and in which frame each page stands. The module `hart` keeps the
-//! table of needs (`specs/Hart.antt`) and of the operations of RV64IA (`specs/Effect.antt`). Below
-//! stand the names of the machine, the lines of memory and the instruction words; above stands the
-//! machine.
+//! The module `hart` keeps the table of needs (`specs/Hart.antt`) and of the operations of RV64IA
+//! (`specs/Effect.antt`). Below stand the names of the machine, the lines of memory, the instruction
+//! words and the loaded program that a hart runs (`og_image`); above, flat memory and the machine.
 #![tactic(auto)]
 
 mod compute;
 pub mod hart;
-pub mod image;
-pub mod layout;
-pub mod raw;
 #[cfg(test)]
 mod tests;
 #[cfg(test)]

@@ -1,6 +1,6 @@
 use crate::hart::{Hart, Need};
-use crate::image::Image;
-use crate::raw::read_raw;
+use og_image::Image;
+use og_elf::read_raw;
 use og_base::Cause;
 use og_line::Access;
 use std::alloc::Global;

@@ -1,7 +1,7 @@
 use Rattle.std.proofs.Common.{◌+◌, ◌*◌, length, get_or, sym, subst, ◌≡◌}
 use Rattle.og_flat.specs.Flat.{Flat, flat_start}
 use Rattle.og_runs.specs.declared.Seat.{Seat}
-use Rattle.rv_hart.specs.Image.{start_byte}
+use Rattle.og_image.specs.Image.{start_byte}
 use Rattle.og_core.specs.Node.{NodeState}
 use Rattle.og_core.specs.Machine.{setup_in}
 use Rattle.og_core.specs.Held.{held}

@@ -1,7 +1,7 @@
 use Rattle.std.proofs.Common.{arith}
 use Rattle.std.proofs.lemmas.Grind.{common_steps}
-use Rattle.rv_hart.specs.Layout.{below}
-use Rattle.rv_hart.proofs.Pages.{map_below_more}
+use Rattle.og_base.specs.Numbers.{below}
+use Rattle.og_image.proofs.Pages.{map_below_more}
 use Rattle.og_base.specs.Settings.{settings_seen}
 use Rattle.og_core.specs.Node.{setup_of}
 use Rattle.og_core.specs.Machine.{new_seat}

@@ -1,5 +1,5 @@
 use Rattle.std.proofs.Common.{◌≡◌, map}
-use Rattle.rv_hart.specs.Layout.{below}
+use Rattle.og_base.specs.Numbers.{below}
 use Rattle.og_base.specs.Settings.{settings_seen}
 use Rattle.og_core.specs.Node.{setup_of}
 use Rattle.og_core.specs.Machine.{new_seat}

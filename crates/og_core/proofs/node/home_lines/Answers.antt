@@ -1,7 +1,7 @@
 use Rattle.std.proofs.Common.{◌≡◌, ℕ, map, arith, subst, ◌*◌}
 use Rattle.std.proofs.lemmas.Grind.{common_steps}
-use Rattle.rv_hart.specs.Layout.{below}
-use Rattle.rv_hart.proofs.Pages.{map_below_more}
+use Rattle.og_base.specs.Numbers.{below}
+use Rattle.og_image.proofs.Pages.{map_below_more}
 use Rattle.og_core.specs.Start.{home_lines, home_line_of}
 use Rattle.og_core.proofs.node.home_lines.Goals as goal
 

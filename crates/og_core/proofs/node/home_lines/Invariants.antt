@@ -1,5 +1,5 @@
 use Rattle.std.proofs.Common.{◌≡◌, map}
-use Rattle.rv_hart.specs.Layout.{below}
+use Rattle.og_base.specs.Numbers.{below}
 use Rattle.og_core.specs.Start.{home_line_of}
 use Rattle.og_core.proofs.node.home_lines.Given as goal
 

@@ -1,5 +1,5 @@
 use Rattle.std.proofs.Common.{◌≡◌, take}
-use Rattle.rv_hart.specs.Image.{start_byte}
+use Rattle.og_image.specs.Image.{start_byte}
 use Rattle.og_flat.proofs.Lines.{all_lines}
 use Rattle.og_flat.proofs.machine.all_lines.Given as goal
 

@@ -1,7 +1,7 @@
 use Rattle.std.proofs.Common.{◌*◌, sym, arith}
 use Rattle.std.proofs.lemmas.Grind.{common_steps}
 use Rattle.std.proofs.lemmas.List.{append-nil, append_assoc}
-use Rattle.rv_hart.specs.Image.{start_byte}
+use Rattle.og_image.specs.Image.{start_byte}
 use Rattle.og_flat.specs.Flat.{start_lines}
 use Rattle.og_flat.proofs.Lines.{start_lines_more}
 use Rattle.og_flat.proofs.machine.push_page.Goals as goal

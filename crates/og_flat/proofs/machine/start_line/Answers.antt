@@ -1,5 +1,5 @@
 use Rattle.std.proofs.Common.{arith}
-use Rattle.rv_hart.specs.Image.{start_byte}
+use Rattle.og_image.specs.Image.{start_byte}
 use Rattle.og_flat.proofs.Lines.{line_is}
 use Rattle.og_flat.proofs.machine.start_line.Goals as goal
 

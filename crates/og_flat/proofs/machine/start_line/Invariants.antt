@@ -1,5 +1,5 @@
 use Rattle.std.proofs.Common.{◌≡◌, ◌<◌, ◌+◌, ◌*◌, ℕ, get_or, length}
-use Rattle.rv_hart.specs.Image.{start_byte}
+use Rattle.og_image.specs.Image.{start_byte}
 use Rattle.og_flat.proofs.machine.start_line.Given as goal
 
 -- the bytes so far are the program's

@@ -3,7 +3,7 @@ use Rattle.std.proofs.Common.{◌≡◌, ℕ, ◌+◌, ◌*◌, ◌/◌, ◌%◌
 use Rattle.std.specs.List.{position}
 use Rattle.std.specs.List.Sorted.{IsStrictlyIncreasing}
 use Rattle.std.specs.Option.{option_map}
-use Rattle.rv_hart.proofs.Pages.{searched_page, searched_none}
+use Rattle.og_image.proofs.Pages.{searched_page, searched_none}
 use Rattle.og_flat.specs.Kept.{KeptState}
 use Rattle.og_flat.proofs.machine.FlatMachine.find.Goals as goal
 

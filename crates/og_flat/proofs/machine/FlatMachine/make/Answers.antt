@@ -1,10 +1,10 @@
 -- The pages are those that are placed: they rise, lie below the last stack page, and have their lines as they are at the
 -- start.
 use Rattle.std.proofs.Common.{◌≡◌, ◌<◌, ◌/◌, ◌^◌, ℕ, List, length, get_or, subst, sym, arith}
-use Rattle.rv_hart.specs.Image.{start_byte}
-use Rattle.rv_hart.specs.Layout.{pages_of}
-use Rattle.rv_hart.proofs.Pages.{pages_small, pages_rise}
-use Rattle.rv_hart.proofs.Placed.{placed_page}
+use Rattle.og_image.specs.Image.{start_byte}
+use Rattle.og_image.specs.Layout.{pages_of}
+use Rattle.og_image.proofs.Pages.{pages_small, pages_rise}
+use Rattle.og_image.proofs.Placed.{placed_page}
 use Rattle.og_flat.proofs.Lines.{all_lines, length-all_lines}
 use Rattle.og_flat.proofs.Begun.{keeps_start, some_place}
 use Rattle.og_flat.proofs.machine.FlatMachine.make.Goals as goal

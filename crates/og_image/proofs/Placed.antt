@@ -7,11 +7,13 @@ use Rattle.std.proofs.lemmas.Grind.{common_steps}
 use Rattle.std.proofs.lemmas.Bool.{cases_Bool}
 use Rattle.std.proofs.lemmas.List.Sums.{fails_before_first}
 use Rattle.std.proofs.lemmas.List.{map-append}
-use Rattle.rv_hart.proofs.Pages.{filter_below_more, map_below_more}
+use Rattle.og_image.proofs.Pages.{filter_below_more, map_below_more}
 use Rattle.std.proofs.lemmas.List.Elements.{filter-append}
-use Rattle.rv_hart.specs.declared.image.Segment.{Segment}
-use Rattle.rv_hart.specs.Image.{ImageState, IsPlaced, IsLoadable, is_page, is_data_page, is_stack_page, is_data_of, stack_page, touches, end_of}
-use Rattle.rv_hart.specs.Layout.{below, pages_of, data_pages, stack_pages, LayoutState, layout_of, first_frame, frame_at}
+use Rattle.og_base.specs.Numbers.{below}
+use Rattle.og_elf.specs.declared.segment.Segment.{Segment}
+use Rattle.og_elf.specs.Segment.{IsPlaced, IsLoadable, end_of, span_of}
+use Rattle.og_image.specs.Image.{ImageState, is_page, is_data_page, is_stack_page, stack_page, touches}
+use Rattle.og_image.specs.Layout.{pages_of, data_pages, stack_pages}
 
 -- x stands somewhere in the list
 abbrev Stands : List ℕ → ℕ → Type 0
@@ -65,7 +67,7 @@ data_low (s ∷ ss) page all is =
     at (cases_Bool (s.writable && touches page s)) first (λ h. data_low ss page (λ k d lt. all (suc k) d (omega arith)) h)
   where
     at : (((s.writable && touches page s) ≡ true) ⊎ ((s.writable && touches page s) ≡ false)) → IsPlaced s → (list_any (λ s. s.writable && touches page s) ss ≡ true → page < 458752) → page < 458752
-    at (inl e) first rest = let ends : end_of s ≤ 1879048192 = first.below in grind (arith, nat_tests)
+    at (inl e) first rest = let ends : end_of (span_of s) ≤ 1879048192 = first.below in grind (arith, nat_tests)
     at (inr e) first rest = rest (grind (arith, nat_tests))
 
 pub placed_page : (image : ImageState) (page : ℕ) → IsLoadable image.entry image.segments → is_page image page ≡ true → position (nat_eq page) (pages_of image) ≢ None

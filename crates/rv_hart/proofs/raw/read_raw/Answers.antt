@@ -1,8 +1,0 @@
-use Rattle.std.proofs.Common.{subst, sym}
-use Rattle.rv_hart.specs.declared.image.Elf.{Elf}
-use Rattle.rv_hart.specs.Image.{IsLoadable}
-use Rattle.rv_hart.proofs.Programs.{raw_loadable}
-use Rattle.rv_hart.proofs.raw.read_raw.Goals as goal
-
-pub returns-in-Ok-clause-loadable : goal.returns-in-Ok-clause-loadable
-returns-in-Ok-clause-loadable c = subst (λ (e : Elf). IsLoadable e.entry e.segments) (sym c.in-Ok.ensures.read) (raw_loadable c.args.bytes.now c.in-Some.ensures.some.0)
