@@ -1,11 +1,11 @@
 -- Round after round.
-use Rattle.std.proofs.Common.{◌≡◌, ℕ, zero, suc, ◌+◌, ◌*◌, ◌<◌, ◌≤◌, Bool, true, false, ◌^◌, ◌⊎◌, inl, inr, arith, refl, sym, subst, List, [], ◌∷◌, length, slice_index_or, Option, None, Some, mul-le-mul_right, ap}
+use Rattle.std.proofs.Common.{◌≡◌, ℕ, zero, suc, ◌+◌, ◌*◌, ◌<◌, ◌≤◌, Bool, true, false, ◌^◌, inr, arith, refl, subst, List, [], ◌∷◌, length, slice_index_or, Option, None, Some, mul-le-mul_right}
 use Rattle.std.proofs.Math.Path.{◌∙◌}
-use Rattle.std.specs.Prelude.{All, sum_by}
+use Rattle.std.specs.Prelude.{All}
 use Rattle.std.proofs.lemmas.List.Sums.{sum_by-cons, sum_by-le}
 use Rattle.atomic_table.specs.Seated.{TableId}
 use Rattle.og_runs.specs.Runs.{Rules}
-use Rattle.og_actors.specs.Actors.{Playing, MakesTurns}
+use Rattle.og_actors.specs.Actors.{Playing}
 use Rattle.og_actors.specs.declared.rounds.Rounds.{Rounds}
 use Rattle.og_actors.specs.declared.rounds.Rounds.TheVariants.{Stopped, Spent, Memory}
 use Rattle.og_actors.specs.Rounds.{IsRound, GoOn, IsSpent, AfterRounds, Standing, all_whole, all_stopped, made_by, idle_by}

@@ -1,11 +1,11 @@
 -- What one event makes of an actor, as contracts see it.
-use Rattle.std.proofs.Common.{◌≡◌, ℕ, ◌+◌, Bool, true, false, max, refl, sym, subst, List, [], ◌∷◌, ◌++◌, length, Option, None, Some, ap}
+use Rattle.std.proofs.Common.{◌≡◌, ℕ, ◌+◌, Bool, true, max, refl, sym, subst, List, [], ◌∷◌, ◌++◌, length, Option, None, Some, ap}
 use Rattle.std.proofs.Math.Path.{◌∙◌}
 use Rattle.atomic_table.specs.Seated.{TableId}
 use Rattle.og_runs.specs.declared.Letter.{Letter}
 use Rattle.og_runs.specs.declared.Msg.{Msg}
 use Rattle.og_runs.specs.declared.Event.{Event}
-use Rattle.og_runs.specs.Runs.{Rules, Outcome, History, posted, outcome_of, move_of, clock_after, choice_of}
+use Rattle.og_runs.specs.Runs.{Rules, History, posted, outcome_of, move_of, clock_after, choice_of}
 use Rattle.og_fabric.specs.declared.rule.Side.{Side}
 use Rattle.og_actors.specs.Actors.{Playing, IsTo, IsEvent, after_sending, side_after}
 use Rattle.og_actors.proofs.Playing.{moves_to}

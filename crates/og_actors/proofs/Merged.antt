@@ -1,10 +1,9 @@
 -- From seats to a run.
-use Rattle.std.proofs.Common.{◌≡◌, ◌≢◌, ℕ, zero, suc, ◌+◌, ◌*◌, ◌<◌, ◌≤◌, Bool, true, false, ◌⊎◌, inl, inr, arith, refl, sym, subst, List, [], ◌∷◌, ◌++◌, length, take, drop, mul-le-mul_right, ap}
+use Rattle.std.proofs.Common.{◌≡◌, ◌≢◌, ℕ, zero, suc, ◌+◌, ◌*◌, ◌≤◌, Bool, true, inl, inr, arith, refl, sym, subst, List, [], ◌∷◌, ◌++◌, length, take, drop, mul-le-mul_right, ap}
 use Rattle.std.proofs.Math.Path.{◌∙◌}
-use Rattle.std.specs.Prelude.{All, map, sum_by}
+use Rattle.std.specs.Prelude.{All, map}
 use Rattle.std.proofs.lemmas.List.Sums.{sum_by-cons}
 use Rattle.atomic_table.specs.Seated.{TableId}
-use Rattle.og_runs.specs.declared.MsgId.{MsgId}
 use Rattle.og_runs.specs.declared.Msg.{Msg}
 use Rattle.og_runs.specs.declared.Event.{Event}
 use Rattle.og_runs.specs.declared.Log.{Log}
@@ -17,7 +16,6 @@ use Rattle.og_actors.specs.declared.rounds.Rounds.{Rounds}
 use Rattle.og_actors.specs.declared.rounds.Rounds.TheVariants.{Stopped, Spent, Memory}
 use Rattle.og_actors.specs.Actors.{Playing, closed_of}
 use Rattle.og_actors.specs.Rounds.{AreSeated, AreInTurn, AfterRounds, IsReached, Counted, AreLogs, IsWholeRun, all_whole, made_by, idle_by}
-use Rattle.og_actors.proofs.Turns.{Keeps}
 use Rattle.og_actors.proofs.Counting.{EachKeeps, go_keep, round_keeps, sums}
 
 seated_tables : {A K N : Type 0} → (t : TableId) (f : ℕ → A) (k : ℕ) (ps : List (Playing A K N)) → AreSeated t f k ps → All (λ p. p.table ≡ t) ps

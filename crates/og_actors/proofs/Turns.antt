@@ -1,5 +1,5 @@
 -- Turn after turn.
-use Rattle.std.proofs.Common.{◌≡◌, ℕ, zero, suc, ◌+◌, ◌*◌, ◌≤◌, Bool, true, false, arith, refl, sym, subst, Option, None, Some, ap}
+use Rattle.std.proofs.Common.{◌≡◌, ℕ, zero, suc, ◌+◌, ◌≤◌, false, arith, refl, subst, Option, None, Some, ap}
 use Rattle.std.proofs.Math.Path.{◌∙◌}
 use Rattle.og_runs.specs.Runs.{Rules}
 use Rattle.og_actors.specs.declared.Turn.{Turn}

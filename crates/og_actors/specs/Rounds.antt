@@ -12,7 +12,6 @@ use Rattle.og_runs.specs.World.{World, WorldRun, find, events_of}
 use Rattle.og_runs.specs.Laws.{IsStart}
 use Rattle.og_runs.specs.Views.{View, LocalViews, ConsistentViews, logs_of}
 use Rattle.og_fabric.specs.Gathered.{AreLeft}
-use Rattle.og_actors.specs.declared.Turn.{Turn}
 use Rattle.og_actors.specs.declared.rounds.Rounds.{Rounds}
 use Rattle.og_actors.specs.declared.rounds.Rounds.TheVariants.{Stopped, Spent, Memory}
 use Rattle.og_actors.specs.Actors.{Playing, newcomer, MakesTurns}
@@ -47,7 +46,7 @@ made_by ps = sum_by (λ p. p.made) ps
 abbrev pub idle_by : {A K N : Type 0} → List (Playing A K N) → ℕ
 idle_by ps = sum_by (λ p. p.idle) ps
 
--- all rounds were made, a log lacks no event, an actor isn't stopped; so many events and idle turns came in them
+-- all rounds were made, no log lacks an event, an actor isn't stopped; so many events and idle turns came in them
 pub record IsSpent {A K N : Type 0} (r : Rules A K N) (stopped : A → Bool) (turns rounds events idle : ℕ) (ps qs : List (Playing A K N)) : Type 0 where
   pub all_rounds : GoOn r stopped turns rounds ps qs
   pub logs : all_whole qs ≡ true

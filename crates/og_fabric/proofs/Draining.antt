@@ -1,5 +1,5 @@
 -- Who gathers empties the queue into the hand of the first actor.
-use Rattle.std.proofs.Common.{◌≡◌, ℕ, suc, ◌+◌, ◌<◌, ◌≤◌, Bool, true, false, nat_eq, arith, refl, sym, subst, List, [], ◌∷◌, ◌++◌, length, Option, None, Some, ap}
+use Rattle.std.proofs.Common.{◌≡◌, ℕ, suc, ◌<◌, false, nat_eq, arith, refl, sym, subst, List, [], ◌∷◌, ◌++◌, length, Option, None, ap}
 use Rattle.std.proofs.Math.Path.{◌∙◌}
 use Rattle.std.proofs.lemmas.Bool.Decides.{nat_tests}
 use Rattle.crossbeam_queue.specs.Fifo.{Pops, Learns, Held}

@@ -9,7 +9,7 @@ use Rattle.og_runs.specs.declared.Msg.{Msg}
 use Rattle.og_runs.specs.declared.Event.{Event}
 use Rattle.og_runs.specs.declared.Seat.{Seat}
 use Rattle.og_runs.specs.Runs.{Rules, same_id}
-use Rattle.og_runs.specs.World.{World, WorldRun, world_step, world_take, world_move, world_move_with, find, without, precedes, placed, placed_all}
+use Rattle.og_runs.specs.World.{World, WorldRun, world_step, world_take, world_move, world_move_with, find, without, precedes, placed}
 use Rattle.og_fabric.specs.Scheme.{HasRoom, IsReady}
 use Rattle.og_purses.specs.declared.Purse.{Purse}
 use Rattle.og_purses.specs.Purses.{purse, rules, spends, takes, next_of}

@@ -1,4 +1,4 @@
-use Rattle.std.proofs.Common.{rules, ◌≡◌, ◌*◌, ◌<◌, arith, sym, ◌∙◌}
+use Rattle.std.proofs.Common.{rules, ◌*◌, arith}
 use Rattle.og_actors.proofs.Counting.{go_keep, go_more, all_tables, all_turns, all_begin, sums_fit, fits_at, grown, ended, stands, spent}
 use Rattle.og_actors.proofs.rounds.run_rounds.Goals as goal
 

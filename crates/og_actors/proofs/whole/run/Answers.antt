@@ -1,4 +1,4 @@
-use Rattle.std.proofs.Common.{rules, ◌≡◌, ◌*◌, ◌∙◌, sym, ap, length}
+use Rattle.std.proofs.Common.{rules, ◌*◌, ◌∙◌, ap, length}
 use Rattle.og_runs.specs.Runs.{joined, IsSorted}
 use Rattle.og_runs.specs.World.{events_of}
 use Rattle.og_actors.specs.Rounds.{all_whole}

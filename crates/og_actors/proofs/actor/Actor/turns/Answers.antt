@@ -1,4 +1,4 @@
-use Rattle.std.proofs.Common.{rules, ◌∙◌}
+use Rattle.std.proofs.Common.{rules}
 use Rattle.og_actors.proofs.Turns.{turns_more, turns_keep}
 use Rattle.og_actors.proofs.actor.Actor.turns.Goals as goal
 
