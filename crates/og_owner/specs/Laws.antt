@@ -1,5 +1,5 @@
 -- What a look-up answers after an intervention: for its block, and for every other block.
-use Rattle.std.specs.Prelude.{◌≡◌, ◌≢◌, ℕ, true, Some, None, option_map}
+use Rattle.std.specs.Prelude.{◌≡◌, ◌≢◌, ℕ, true, None, option_map}
 use Rattle.og_base.specs.declared.Block.{Block}
 use Rattle.og_line.specs.declared.Mode.TheVariants.{Shared}
 use Rattle.og_cache.specs.Cache.{Cached, IsCache, look_of, has_room}

@@ -1,4 +1,4 @@
-use Rattle.std.proofs.Common.{◌≡◌, ◌≢◌, ℕ, true, ◌∙◌}
+use Rattle.std.proofs.Common.{◌≡◌, ◌≢◌, true, ◌∙◌}
 use Rattle.og_base.specs.declared.Block.{Block}
 use Rattle.og_line.specs.declared.Mode.TheVariants.{Shared}
 use Rattle.og_cache.specs.Cache.{Cached, IsCache, look_of, has_room}
