@@ -2,9 +2,9 @@
 //!
 //! The set of a block is its number among all blocks of its home, modulo the number of sets. A fill
 //! uses the lowest empty way of the set; a full set throws out its ways in turn. What contracts see is
-//! the papers' word for a cache, a finite map from blocks to mode, line and way with the next way of
-//! each set (`specs/Cache`). The layers above see less: what a look-up answers after each call is a law
-//! (`laws`), so that nobody above names a set or a way.
+//! a finite map from blocks to mode, line and way, with the next way of each set (`specs/Cache`). The
+//! layers above see less: what a look-up answers after each call is a law (`laws`), so that nobody
+//! above names a set or a way.
 //!
 //! Below stand the names of blocks, and lines; above it a node and what it answers as an owner. All
 //! memory is taken by [`Cache::make`]. A look-up compares the names in the ways of one set and touches

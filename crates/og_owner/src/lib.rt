@@ -13,6 +13,7 @@
 ghost use Rattle.std.specs.Prelude.{◌≡◌, ◌≢◌, ◌+◌, ◌≤◌, ◌<◌, [], ◌∷◌, ◌++◌, length, Some};
 ghost use Rattle.og_cache.specs.Cache.{look_of, mode_of, with_mode, without};
 ghost use Rattle.og_owner.specs.Owner.{letter as letter_to, dirty_line_of, answers, dirty_answers, clean_answers, after_intervention, after_invalidation, invalidated};
+ghost use Rattle.og_owner.specs.Laws.{InterventionIsSeen};
 
 #[cfg(test)]
 mod tests;
@@ -149,3 +150,9 @@ fn share_copy(cache: &mut Cache, block: Block)
         None => {}
     }
 }
+
+/// What a look-up answers after an intervention: a copy that is to be shared is, one that is given away is gone, and every
+/// other block is as it was.
+pub fn intervention_is_seen()
+    ensures { InterventionIsSeen }
+{}

@@ -3,7 +3,7 @@ use og_base::{Block, Frame};
 use og_cache::Cache;
 use og_line::{Line, Mode};
 use og_msg::{Kind, Outbox};
-use og_request::{Held, Request, Want};
+use og_request::{Held, Outcome, Request, Want};
 use std::alloc::Global;
 use std::process::Abort;
 use std::test::Fail;
@@ -147,5 +147,90 @@ fn is_marked(request: Option<Request>) -> bool {
         block: request.block(),
         line: line(),
     };
-    request.has_row(&reply) && request.reply(&reply) == og_request::Outcome::Again
+    request.has_row(&reply) && request.reply(&reply) == Outcome::Again
+}
+
+// What a request makes of a letter to its node.
+fn received(rt: &impl Abort, request: &mut Request, kind: &Kind) -> Outcome {
+    assert!(rt; request.has_row(kind));
+    request.reply(kind)
+}
+
+// What the only letter to this node says.
+fn letter_to(rt: &impl Abort, out: &Outbox, node: u8) -> Kind {
+    let said = out.letters().iter().find(|letter| letter.to == node);
+    said.expect(rt, "a letter").kind
+}
+
+// A dirty owner is asked to share: its line goes to the reader, who has the home's older line already, and home.
+#[test]
+fn newer_line_is_read(rt: HostRuntime) -> Result<(), Fail> {
+    let mut cache = cache_with(&rt, rt.alloc(), Some(Mode::Dirty))?;
+    let mut read = Request::issue(Want::Read, BLOCK);
+    let mut out = Outbox::empty();
+    let speculative = Kind::SpecReply {
+        block: BLOCK,
+        line: Line::zero(),
+    };
+    assert!(rt; received(&rt, &mut read, &speculative) == Outcome::Waiting);
+    if cache.look(BLOCK) != Some(Mode::Shared) {
+        intervene(&mut cache, BLOCK, Held::Shared(1), &mut out);
+    }
+    let filled = Outcome::Filled {
+        mode: Mode::Shared,
+        line: Some(line()),
+    };
+    assert!(rt; received(&rt, &mut read, &letter_to(&rt, &out, 1)) == filled);
+    Ok(())
+}
+
+// An intervention comes before the grant that it follows: it is held, and answered with what was stored.
+#[test]
+fn held_intervention_is_answered(rt: HostRuntime) -> Result<(), Fail> {
+    let mut cache = cache_with(&rt, rt.alloc(), None)?;
+    let mut write = Request::issue(Want::ReadEx, BLOCK);
+    let mut out = Outbox::empty();
+    assert!(rt; write.held().is_none());
+    write.hold(Held::Shared(0));
+    let grant = Kind::ExclusiveReply {
+        block: BLOCK,
+        line: Line::zero(),
+        acks: 0,
+    };
+    if let Outcome::Filled {
+        mode,
+        line: Some(granted),
+    } = received(&rt, &mut write, &grant)
+    {
+        assert!(rt; cache.look(BLOCK).is_none());
+        assert!(rt; cache.has_room(BLOCK));
+        cache.fill(BLOCK, mode, &granted);
+    }
+    assert_eq!(rt; cache.look(BLOCK), Some(Mode::Dirty));
+    assert!(rt; cache.look(BLOCK).is_some());
+    *cache.line_mut(BLOCK) = line();
+    let held = write.held().expect(&rt, "held");
+    if cache.look(BLOCK) != Some(Mode::Shared) {
+        intervene(&mut cache, BLOCK, held, &mut out);
+    }
+    let block = BLOCK;
+    let expected = [
+        (
+            0,
+            Kind::SharedResponse {
+                block,
+                line: line(),
+            },
+        ),
+        (
+            HOME,
+            Kind::SharingWriteBack {
+                block,
+                line: line(),
+            },
+        ),
+    ];
+    assert!(rt; has_letters(&out, &expected));
+    assert_eq!(rt; cache.look(BLOCK), Some(Mode::Shared));
+    Ok(())
 }
