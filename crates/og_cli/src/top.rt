@@ -7,7 +7,7 @@ ghost use Rattle.og_base.specs.Settings.{settings_seen};
 ghost use Rattle.og_core.specs.Machine.{start_of};
 ghost use Rattle.og_io.specs.Outside.{TellsLongFile, parts_text, texts};
 ghost use Rattle.og_cli.specs.Simulate.{IsSimulated};
-ghost use Rattle.og_cli.specs.Exit.{fault_text, refused_of, default_settings, is_built, JobEnds, CommandEnds, EndsUnhindered, IsReported, name_of, PrintEnds, ended_of, RunEnds, IsRunText, image_of, image_fault, error_line};
+ghost use Rattle.og_cli.specs.Exit.{fault_text, refused_of, default_settings, is_built, JobEnds, CommandEnds, EndsUnhindered, IsReported, name_of, PrintEnds, ended_of, RunEnds, IsRunText, raw_image, image_fault, error_line};
 ghost use Rattle.og_cli.specs.Words.{job_seen, job_of};
 
 use crate::exit::{Exit, ImageFault};
