@@ -7,9 +7,9 @@ ghost use Rattle.og_cli.specs.Simulate.{IsSimulated, IsAdvanced, LeadsTo};
 
 use og_base::NoMemory;
 use og_core::machine::Machine;
+use og_image::Image;
 use og_msg::Event;
 use og_runs::sort_events;
-use og_image::Image;
 use std::alloc::Global;
 
 /// The events of a simulation in the order of their stamps, and whether it ended quiet.

@@ -16,11 +16,10 @@ use crate::words::{Job, WordsFault, read_words};
 use itoa::Buffer;
 use og_base::Settings;
 use og_core::machine::Machine;
+use og_elf::{RawFault, read_raw};
+use og_image::{Image, LayoutFault};
 use og_io::{Shelf, ShelfFault, Sink, SinkFault, write_all, write_parts};
 use og_trace::write_text;
-use og_image::Image;
-use og_image::LayoutFault;
-use og_elf::{RawFault, read_raw};
 use std::alloc::Global;
 
 /// The most bytes of an image file.

@@ -16,10 +16,9 @@ use og_base::{
     ActorId, Choice, MsgId, NoMemory, NotEnabled, Settings, Stamp, act_stamp, room, take_stamp,
 };
 use og_flight::Flight;
+use og_image::{Image, Layout, LayoutFault};
 use og_msg::{Event, Kind, Msg};
 use og_runs::Seat;
-use og_image::Image;
-use og_image::{Layout, LayoutFault};
 use std::alloc::Global;
 use std::marker::Model;
 

@@ -15,11 +15,10 @@ use og_base::{
 };
 use og_directory::{Entry, State};
 use og_flat::machine::start_line;
+use og_image::{Image, Layout};
 use og_line::{Access, Line, Reservation};
 use og_msg::{Kind, Letter, Msg, Note};
 use rv_hart::hart::{Hart, Need};
-use og_image::Image;
-use og_image::Layout;
 use std::alloc::Global;
 use std::marker::Model;
 

@@ -8,9 +8,8 @@ ghost use Rattle.og_flat.specs.Flat.{Flat, block_of, flat_answer, flat_next, fla
 ghost use Rattle.og_flat.specs.Kept.{IsYoung, Keeps, Takes, has_block, place_in};
 
 use og_base::{NoMemory, NodeId};
+use og_image::{Image, all_pages};
 use og_line::{Access, LINE_BYTES, Line, Reservation};
-use og_image::Image;
-use og_image::all_pages;
 use std::alloc::Global;
 use std::marker::Model;
 

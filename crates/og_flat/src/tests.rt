@@ -1,10 +1,10 @@
 ghost use Rattle.std.specs.Prelude.{◌<◌, length};
 
 use crate::machine::FlatMachine;
+use og_elf::read_raw;
+use og_image::Image;
 use og_line::{Access, AtomicOp};
 use rv_hart::hart::{Hart, Need};
-use og_image::Image;
-use og_elf::read_raw;
 use std::alloc::Global;
 use std::process::Abort;
 use std::test::Fail;

@@ -13,9 +13,9 @@ ghost use Rattle.og_image.specs.Image.{is_data_of};
 ghost use Rattle.rv_hart.specs.Hart.{AnswerIgnored, HartState, IsStop, call_need, constant_of, access_need, data_need, target_need, instr_of, imm_of, first_source, second_source, access_in, target_in, with_result, start_of, need_of, finish_of, halt_of};
 
 use crate::compute::{jump_target, memory_access, result_value};
-use og_image::Image;
 use crate::work::{Work, find_work};
 use og_base::{Cause, NodeId};
+use og_image::Image;
 use og_line::Access;
 use rv_decode::{Instr, Op, decode};
 use std::marker::Model;

@@ -1,7 +1,7 @@
 use crate::hart::{Hart, Need};
-use og_image::Image;
-use og_elf::read_raw;
 use og_base::Cause;
+use og_elf::read_raw;
+use og_image::Image;
 use og_line::Access;
 use std::alloc::Global;
 use std::process::Abort;
