@@ -1,5 +1,7 @@
 //! Images, what stands in them, and where their pages stand.
 
+ghost use Rattle.std.specs.Prelude.{◌≡◌, IfOk};
+
 use crate::{Image, Layout, LayoutFault, storm_image};
 use og_base::{Frame, Settings, VPage};
 use og_elf::{read_elf, read_raw};
@@ -20,7 +22,9 @@ const SETTINGS: Settings = Settings {
 };
 
 // An environment call in a raw file, with so many bytes of data.
-fn raw_image(alloc: Global, data: usize) -> Result<Image, Fail> {
+fn raw_image(alloc: Global, data: usize) -> Result<Image, Fail>
+    ensures { IfOk result (λ image. image.nodes ≡ 1) }
+{
     let mut file = Vec::from_slice(alloc, &[4, 0, 0, 0, 0x73, 0, 0, 0])?;
     for _ in 0..data {
         file.push(7)?;
