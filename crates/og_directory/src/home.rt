@@ -72,6 +72,55 @@ fn refuse(case: Case, out: &mut Outbox)
     send(out, case.sender, Kind::Nak { block: case.block });
 }
 
+/// Refuses a request for a block whose page has moved away.
+fn refuse_poisoned(case: Case, out: &mut Outbox)
+    requires { length out.old < 132 }
+    ensures { out.new ≡ out.old ++ to case.sender (Said.PoisonError case.block) ∷ [] }
+{
+    send(out, case.sender, Kind::PoisonError { block: case.block });
+}
+
+/// Gives the sender the only copy, with the home's line.
+fn give(entry: &mut Entry, line: &Line, case: Case, acks: u8, out: &mut Outbox)
+    requires { length out.old < 132 }
+    ensures entry { entry.new ≡ State.Exclusive case.sender }
+    ensures letters { out.new ≡ out.old ++ to case.sender (Said.ExclusiveReply case.block line.now acks) ∷ [] }
+{
+    let (block, line) = (case.block, *line);
+    *entry = Entry::of(State::Exclusive(case.sender));
+    send(out, case.sender, Kind::ExclusiveReply { block, line, acks });
+}
+
+/// Asks the owner by this intervention, and sends the sender the home's line meanwhile.
+fn ask_owner(line: &Line, case: Case, owner: ActorId, intervention: Kind, out: &mut Outbox)
+    requires { length out.old + 2 ≤ 132 }
+    ensures { out.new ≡ out.old ++ to owner intervention ∷ to case.sender (Said.SpecReply case.block line.now) ∷ [] }
+{
+    let (block, line) = (case.block, *line);
+    send(out, owner, intervention);
+    send(out, case.sender, Kind::SpecReply { block, line });
+}
+
+/// Answers in the place of the owner, whose write-back came first, and tells the owner so.
+fn stand_in(case: Case, requester: ActorId, response: Kind, out: &mut Outbox)
+    requires { length out.old + 2 ≤ 132 }
+    ensures { out.new ≡ out.old ++ to requester response ∷ to case.sender (Said.WbBusyAck case.block) ∷ [] }
+{
+    send(out, requester, response);
+    send(out, case.sender, Kind::WbBusyAck { block: case.block });
+}
+
+/// The mover's answer, with this line.
+fn poison_reply(case: Case, line: &Line, acks: u8) -> Kind
+    ensures { result ≡ Said.PoisonReply case.block line.now acks }
+{
+    Kind::PoisonReply {
+        block: case.block,
+        line: *line,
+        acks,
+    }
+}
+
 /// `Read`. The answer is whether the request counts.
 fn read(entry: &mut Entry, line: &Line, case: Case, out: &mut Outbox) -> bool
     requires nodes { case.nodes ≤ 128 }
@@ -84,58 +133,32 @@ fn read(entry: &mut Entry, line: &Line, case: Case, out: &mut Outbox) -> bool
     ensures counts { result ≡ not (list_any is_refusal (read_row case.nodes line.now case.sender case.block entry.old).letters) }
     ensures named { NamesNodes case.nodes entry.new }
 {
-    let Case {
-        block,
-        sender,
-        nodes,
-    } = case;
-    let line = *line;
     match entry.state() {
         State::Unowned => {
-            *entry = Entry::of(State::Exclusive(sender));
-            send(
-                out,
-                sender,
-                Kind::ExclusiveReply {
-                    block,
-                    line,
-                    acks: 0,
-                },
-            );
+            give(entry, line, case, 0, out);
             true
         }
         State::Shared(_) => {
-            let sharers = with_sharer(entry.sharers(), sender, nodes);
+            let sharers = with_sharer(entry.sharers(), case.sender, case.nodes);
             *entry = Entry::of(State::Shared(sharers));
-            send(out, sender, Kind::SharedReply { block, line });
+            let (block, line) = (case.block, *line);
+            send(out, case.sender, Kind::SharedReply { block, line });
             true
         }
-        State::Exclusive(owner) if owner == sender => {
-            send(
-                out,
-                sender,
-                Kind::ExclusiveReply {
-                    block,
-                    line,
-                    acks: 0,
-                },
-            );
+        State::Exclusive(owner) if owner == case.sender => {
+            give(entry, line, case, 0, out);
             true
         }
         State::Exclusive(owner) => {
-            *entry = Entry::of(State::BusyShared {
+            let (block, requester) = (case.block, case.sender);
+            *entry = Entry::of(State::BusyShared { owner, requester });
+            ask_owner(
+                line,
+                case,
                 owner,
-                requester: sender,
-            });
-            send(
+                Kind::InterveneShared { block, requester },
                 out,
-                owner,
-                Kind::InterveneShared {
-                    block,
-                    requester: sender,
-                },
             );
-            send(out, sender, Kind::SpecReply { block, line });
             true
         }
         State::BusyShared { .. } | State::BusyExclusive { .. } | State::BusyPoison { .. } => {
@@ -143,7 +166,7 @@ fn read(entry: &mut Entry, line: &Line, case: Case, out: &mut Outbox) -> bool
             false
         }
         State::Poison => {
-            send(out, sender, Kind::PoisonError { block });
+            refuse_poisoned(case, out);
             false
         }
     }
@@ -161,55 +184,34 @@ fn read_exclusive(entry: &mut Entry, line: &Line, case: Case, out: &mut Outbox) 
     ensures counts { result ≡ not (list_any is_refusal (read_exclusive_row case.nodes line.now case.sender case.block entry.old).letters) }
     ensures named { NamesNodes case.nodes entry.new }
 {
-    let Case { block, sender, .. } = case;
-    let line = *line;
     match entry.state() {
         State::Unowned => {
-            *entry = Entry::of(State::Exclusive(sender));
-            send(
-                out,
-                sender,
-                Kind::ExclusiveReply {
-                    block,
-                    line,
-                    acks: 0,
-                },
-            );
+            give(entry, line, case, 0, out);
             true
         }
         State::Shared(_) => {
             let acks = invalidate_others(case, &entry.sharers(), out);
-            *entry = Entry::of(State::Exclusive(sender));
-            send(out, sender, Kind::ExclusiveReply { block, line, acks });
+            give(entry, line, case, acks, out);
             true
         }
-        State::Exclusive(owner) if owner == sender => {
-            send(
-                out,
-                sender,
-                Kind::ExclusiveReply {
-                    block,
-                    line,
-                    acks: 0,
-                },
-            );
+        State::Exclusive(owner) if owner == case.sender => {
+            give(entry, line, case, 0, out);
             true
         }
         State::Exclusive(owner) => {
+            let (block, requester) = (case.block, case.sender);
             *entry = Entry::of(State::BusyExclusive {
                 owner,
-                requester: sender,
+                requester,
                 returned: false,
             });
-            send(
-                out,
+            ask_owner(
+                line,
+                case,
                 owner,
-                Kind::InterveneEx {
-                    block,
-                    requester: sender,
-                },
+                Kind::InterveneEx { block, requester },
+                out,
             );
-            send(out, sender, Kind::SpecReply { block, line });
             true
         }
         State::BusyShared { .. } | State::BusyExclusive { .. } | State::BusyPoison { .. } => {
@@ -217,7 +219,7 @@ fn read_exclusive(entry: &mut Entry, line: &Line, case: Case, out: &mut Outbox) 
             false
         }
         State::Poison => {
-            send(out, sender, Kind::PoisonError { block });
+            refuse_poisoned(case, out);
             false
         }
     }
@@ -263,7 +265,7 @@ fn upgrade(entry: &mut Entry, line: &Line, case: Case, out: &mut Outbox) -> bool
             true
         }
         State::Poison => {
-            send(out, case.sender, Kind::PoisonError { block: case.block });
+            refuse_poisoned(case, out);
             false
         }
         _ => {
@@ -284,35 +286,35 @@ fn write_back(entry: &mut Entry, line: &mut Line, case: Case, fresh: Line, out: 
     ensures letters { IfSome (write_back_row case.nodes case.sender case.block fresh entry.old) (λ row. out.new ≡ out.old ++ row.letters) }
     ensures named { NamesNodes case.nodes entry.new }
 {
-    let Case {
-        block,
-        sender,
-        nodes,
-    } = case;
+    let block = case.block;
     *line = fresh;
     match entry.state() {
         State::Exclusive(_) => {
             *entry = Entry::unowned();
-            send(out, sender, Kind::WbAck { block });
+            send(out, case.sender, Kind::WbAck { block });
         }
         State::BusyShared { requester, .. } => {
-            let sharers = with_sharer(Sharers::none(), requester, nodes);
+            let sharers = with_sharer(Sharers::none(), requester, case.nodes);
             *entry = Entry::of(State::Shared(sharers));
-            send(out, requester, Kind::SharedResponse { block, line: fresh });
-            send(out, sender, Kind::WbBusyAck { block });
+            stand_in(
+                case,
+                requester,
+                Kind::SharedResponse { block, line: fresh },
+                out,
+            );
         }
         State::BusyExclusive {
             owner,
             requester,
             ..
-        } if owner == sender => {
+        } if owner == case.sender => {
             *entry = Entry::of(State::Exclusive(requester));
-            send(
-                out,
+            stand_in(
+                case,
                 requester,
                 Kind::ExclusiveResponse { block, line: fresh },
+                out,
             );
-            send(out, sender, Kind::WbBusyAck { block });
         }
         State::BusyExclusive {
             owner,
@@ -324,20 +326,11 @@ fn write_back(entry: &mut Entry, line: &mut Line, case: Case, fresh: Line, out: 
                 requester,
                 returned: true,
             });
-            send(out, sender, Kind::WbAck { block });
+            send(out, case.sender, Kind::WbAck { block });
         }
         State::BusyPoison { .. } => {
             *entry = Entry::of(State::Poison);
-            send(
-                out,
-                nodes,
-                Kind::PoisonReply {
-                    block,
-                    line: fresh,
-                    acks: 0,
-                },
-            );
-            send(out, sender, Kind::WbBusyAck { block });
+            stand_in(case, case.nodes, poison_reply(case, &fresh, 0), out);
         }
         State::Unowned | State::Shared(_) | State::Poison => unreachable!(),
     }
@@ -397,15 +390,7 @@ fn give_up(entry: &mut Entry, line: &Line, case: Case, out: &mut Outbox)
         unreachable!()
     };
     *entry = Entry::of(State::Poison);
-    send(
-        out,
-        case.nodes,
-        Kind::PoisonReply {
-            block: case.block,
-            line: *line,
-            acks: 0,
-        },
-    );
+    send(out, case.nodes, poison_reply(case, line, 0));
 }
 
 /// `PoisonRead`, from the mover.
@@ -420,29 +405,19 @@ fn poison(entry: &mut Entry, line: &Line, case: Case, out: &mut Outbox)
     ensures letters { IfSome (poison_row case.nodes line.now case.block entry.old) (λ row. out.new ≡ out.old ++ row.letters) }
     ensures named { NamesNodes case.nodes entry.new }
 {
-    let Case { block, sender, .. } = case;
-    let line = *line;
     match entry.state() {
         State::Unowned => {
             *entry = Entry::of(State::Poison);
-            send(
-                out,
-                sender,
-                Kind::PoisonReply {
-                    block,
-                    line,
-                    acks: 0,
-                },
-            );
+            send(out, case.sender, poison_reply(case, line, 0));
         }
         State::Shared(_) => {
             let acks = invalidate_others(case, &entry.sharers(), out);
             *entry = Entry::of(State::Poison);
-            send(out, sender, Kind::PoisonReply { block, line, acks });
+            send(out, case.sender, poison_reply(case, line, acks));
         }
         State::Exclusive(owner) => {
             *entry = Entry::of(State::BusyPoison { owner });
-            send(out, owner, Kind::IntervenePoison { block });
+            send(out, owner, Kind::IntervenePoison { block: case.block });
         }
         State::BusyShared { .. } | State::BusyExclusive { .. } => refuse(case, out),
         State::BusyPoison { .. } | State::Poison => unreachable!(),
