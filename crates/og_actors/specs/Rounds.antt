@@ -7,7 +7,8 @@ use Rattle.og_runs.specs.declared.MsgId.{MsgId}
 use Rattle.og_runs.specs.declared.Msg.{Msg}
 use Rattle.og_runs.specs.declared.Event.{Event}
 use Rattle.og_runs.specs.declared.Log.{Log}
-use Rattle.og_runs.specs.Runs.{Rules, choices}
+use Rattle.og_runs.specs.declared.Seat.{Seat}
+use Rattle.og_runs.specs.Runs.{Rules, Local, start_history, choices}
 use Rattle.og_runs.specs.World.{World, WorldRun, find, events_of}
 use Rattle.og_runs.specs.Laws.{IsStart}
 use Rattle.og_runs.specs.Views.{View, LocalViews, ConsistentViews, logs_of}
@@ -72,10 +73,22 @@ abbrev pub AreInTurn : {A K N : Type 0} → TableId → ℕ → List (Playing A 
 AreInTurn t k [] = Unit {0}
 AreInTurn t k (p ∷ ps) = ((p.table ≡ t) × (p.actor ≡ k)) × AreInTurn t (suc k) ps
 
--- the events are a run of all actors from their start, at whose end the messages that are left are in flight
-abbrev pub IsWholeRun : {A K N : Type 0} → Rules A K N → (ℕ → A) → ℕ → List (Event N) → List (Msg K) → Type 0
-IsWholeRun {A} {K} {N} r f actors es left = (w : World A K) → IsStart f w → length w.seats ≡ actors →
-    (u : World A K) × WorldRun r w (choices es) u es × ((i : MsgId) → find i u.flight ≡ find i left)
+-- the log of each actor from k on leads it from its start to where it is
+abbrev pub LeadAll : {A K N : Type 0} → Rules A K N → (ℕ → A) → ℕ → List (Playing A K N) → Type 0
+LeadAll r f k [] = Unit {0}
+LeadAll r f k (p ∷ ps) = Local r k (start_history (f k)) p.log p.past × LeadAll r f (suc k) ps
+
+-- rounds that ended so leave these seats: all actors are stopped, or not all; no want of memory is told
+abbrev pub AsEnded : {A : Type 0} → (A → Bool) → Rounds → List (Seat A) → Type 0
+AsEnded stopped Stopped xs = list_all (λ x. stopped x.local) xs ≡ true
+AsEnded stopped (Spent events idle) xs = list_all (λ x. stopped x.local) xs ≡ false
+AsEnded stopped Memory xs = ◌≡◌ {A = Bool} true false
+
+-- the events are a run of all actors from their start, at whose end the messages that are left are in flight, and the
+-- actors are stopped, or not, as the rounds ended
+abbrev pub IsWholeRun : {A K N : Type 0} → Rules A K N → (ℕ → A) → (A → Bool) → ℕ → Rounds → List (Event N) → List (Msg K) → Type 0
+IsWholeRun {A} {K} {N} r f stopped actors end es left = (w : World A K) → IsStart f w → length w.seats ≡ actors →
+    (u : World A K) × WorldRun r w (choices es) u es × ((i : MsgId) → find i u.flight ≡ find i left) × AsEnded stopped end u.seats
 
 -- why no further round is made: a log lacks an event, or else all actors are stopped
 abbrev pub Standing : Bool → Bool → Option Rounds → Type 0

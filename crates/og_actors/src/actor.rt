@@ -2,9 +2,8 @@
 
 ghost use Rattle.std.specs.Prelude.{◌≡◌, ℕ, ◌+◌, ◌*◌, ◌<◌, ◌≤◌, ◌^◌, ◌∷◌, ◌++◌, [], length, None, max, true, false};
 ghost use Rattle.og_runs.specs.Runs.{posted};
-ghost use Rattle.og_runs.specs.Views.{LocalView};
 ghost use Rattle.og_fabric.specs.Sides.{Fits, blank};
-ghost use Rattle.og_actors.specs.Actors.{is_there, Playing, newcomer, closed_of, view_of, IsActor, AfterTurn, AfterPart, MakesTurns, after_sending};
+ghost use Rattle.og_actors.specs.Actors.{is_there, Playing, newcomer, closed_of, LeadsHere, IsActor, AfterTurn, AfterPart, MakesTurns, after_sending};
 
 use crate::{Gate, Part, Turn};
 use og_fabric::{Fabric, Posted, Scheme, Seat, Taken};
@@ -196,7 +195,7 @@ impl<A, K: Copy + Drop, N: Drop, S: Scheme<A, K, N>, P: Part<A, K, N, S>> Actor<
         requires whole { self.whole ≡ true }
         ensures posted { result ≡ closed_of self }
         ensures count { length self.log ≡ self.made }
-        ensures local { LocalView S.rules self.actor (S.start self.actor) (view_of self) }
+        ensures local { LeadsHere S.rules (S.start self.actor) self }
     {
         let Actor {
             part: _,

@@ -3,6 +3,7 @@ use Rattle.std.proofs.Common.{◌≡◌, ℕ, ◌+◌, ◌<◌, Bool, true, fals
 use Rattle.std.proofs.lemmas.Bool.Decides.{nat_tests}
 use Rattle.og_slots.proofs.Count.{count_some}
 use Rattle.og_block.proofs.Served.{not_writable, not_shared}
+use Rattle.og_block.proofs.Free.{free_poison}
 use Rattle.og_block.specs.State.{Copy, NoCopy, Want, Idle, Upgrading, Ask, NoAsk, Response, NoResponse, Back, Victim, Free, Seen, Intervention, Entry, Revision, Exclusive, Invalidate, InvalidateAck, Block}
 use Rattle.og_block.specs.Rows.{has_response, has_intervention}
 use Rattle.og_block.specs.Invariant.{Invariant, Local, Asks, Fits_ask, Fits_copy, Backs, Fits_back, Spent, Waits, Intervened, Intervened_by, Early, Early_by, Counted, waits_shared, waits_exclusive, is_spent, is_asked, awaits_shared, awaits_exclusive, is_write_back, is_shared, is_upgrade, grants, pending, is_for, is_holder}
@@ -75,6 +76,9 @@ module _ {L : Type 0} where
     acknowledged = λ a. let k = h.backs in grind arith;
     busy_acknowledged = λ a. let k = h.backs in grind arith;
     write_back = λ w. holds h w;
+    parts = h.asks;
+    revision = inv.home.revised;
+    poison = λ o e. free_poison n f b o q h e;
   }
     where
       asks_idle : Local n f b q → b.want q ≡ Idle → b.ask q ≡ NoAsk

@@ -34,4 +34,11 @@ pub mod Balance
 pub mod Charges
 pub mod Blocks
 pub mod KeptHanded
+pub mod Free
+pub mod Leaves
+pub mod Sends
+pub mod Stays
+pub mod Bounded
+pub mod Moves
+pub mod Returned
 pub mod Races

@@ -5,11 +5,14 @@ use Rattle.og_slots.proofs.Count.{count_some}
 use Rattle.og_block.proofs.All.{kept}
 use Rattle.og_block.proofs.Alone.{holder_is_one}
 use Rattle.og_block.proofs.KeptHanded.{handed_kept}
-use Rattle.og_block.specs.State.{Copy, NoCopy, Shared, Want, Ask, Upgrade, Response, Back, Invalidation, SharedBy, BusyExclusive, Revision, NoRevision, DirtyTransfer, Single, Sharing, Block, start}
-use Rattle.og_block.specs.Rows.{Row, apply, actor_of, has_exclusive}
+use Rattle.og_block.proofs.Free.{asked_how}
+use Rattle.og_block.proofs.Returned.{returned_marked}
+use Rattle.og_block.specs.State.{Copy, NoCopy, Shared, Want, Reading, Ask, Upgrade, Response, Back, WriteBack, WriteBackAck, WriteBackBusyAck, Victim, Taken, Busy, Seen, Intervention, Invalidation, SharedBy, BusyExclusive, Revision, NoRevision, DirtyTransfer, Single, Sharing, Block, start}
+use Rattle.og_block.specs.Rows.{Row, apply, actor_of, has_exclusive, has_intervention}
 use Rattle.og_block.specs.Access.{flat_after}
-use Rattle.og_block.specs.Invariant.{Invariant, Local, Home, Asks, Rests, Backs, Sent_by, Fresh_copy, Memory, Revised, Inside, is_holder, is_sharer, is_invalidate, is_for, is_asked, is_shared, waits_exclusive, awaits_exclusive, grants, owns, trusts, trusts_at, was_given, pending}
-use Rattle.og_block.specs.Races.{names, is_handed, Handed, Races}
+use Rattle.og_block.specs.Invariant.{Invariant, Local, Home, Asks, Rests, Backs, Fits_back, Sent_by, Fresh_copy, Memory, Revised, Inside, is_holder, is_sharer, is_invalidate, is_for, is_shared, is_write_back, waits_exclusive, awaits_exclusive, grants, owns, trusts, trusts_at, was_given, pending}
+use Rattle.og_block.specs.Balance.{is_ack, is_busy_ack}
+use Rattle.og_block.specs.Races.{names, is_handed, is_granted, Handed, Unheard, Races}
 use Rattle.og_block.specs.Run.{Runs}
 
 module _ {L : Type 0} where
@@ -20,16 +23,16 @@ module _ {L : Type 0} where
   pub handed_start : (k : Sharing) (memory : L) (q : ℕ) → Handed (start k memory) q
   handed_start k memory q = λ g. cc
 
-  given : (n : ℕ) (f : L) (b : Block L) (o p : ℕ) (v : Revision L) → Home n f b → Local n f b p → Handed b p → b.entry ≡ BusyExclusive o p false → b.revision ≡ v → ((b.revision ≡ NoRevision) × (waits_exclusive (b.want p) (b.ask p) (b.response p) ≡ true) × (is_asked b.entry b.revision o ≡ true)) ⊎ ((b.revision ≡ DirtyTransfer o) × (is_handed (b.copy p) (b.want p) (b.ask p) (b.response p) (b.back p) ≡ true))
-  given n f b o p NoRevision home hp hd e ev = inl (ev, waiting hp.waits.1, grind (arith, nat_tests))
+  given : (n : ℕ) (f : L) (b : Block L) (o p : ℕ) (v : Revision L) → Home n f b → Local n f b o → Local n f b p → Handed b p → b.entry ≡ BusyExclusive o p false → b.revision ≡ v → Unheard b o p ⊎ ((b.revision ≡ DirtyTransfer o) × (is_handed (b.copy p) (b.want p) (b.ask p) (b.response p) (b.back p) ≡ true))
+  given n f b o p NoRevision home ho hp hd e ev = inl (record { silent = ev; waits = waiting hp.waits.1; asked = asked_how n f b o p ho e ev })
     where
       waiting : waits_exclusive (b.want p) (b.ask p) (b.response p) ≡ awaits_exclusive b.entry b.revision p → waits_exclusive (b.want p) (b.ask p) (b.response p) ≡ true
       waiting w = let a : awaits_exclusive b.entry b.revision p ≡ true = grind (arith, nat_tests) in cc
-  given n f b o p (DirtyTransfer s) home hp hd e ev = inr (sender home.revised, hd (grind (arith, nat_tests)))
+  given n f b o p (DirtyTransfer s) home ho hp hd e ev = inr (sender home.revised, hd (grind (arith, nat_tests)))
     where
       sender : Revised b.entry b.revision → b.revision ≡ DirtyTransfer o
       sender r = grind arith
-  given n f b o p v home hp hd e ev = absurd (let r = home.revised in grind arith)
+  given n f b o p v home ho hp hd e ev = absurd (let r = home.revised in grind arith)
 
   no_copy : (c : Copy L) (w : Want) (a : Ask L) (r : Response L) (k : Back L) → trusts c w a r ≡ false → owns c w a r k ≡ false → c ≡ NoCopy
   no_copy c w a r k t o = grind arith
@@ -47,8 +50,8 @@ module _ {L : Type 0} where
       by_owner : (t : Bool) → (t ≡ true → is_holder b.entry b.revision q ≡ true) → t ≡ false
       by_owner t h = let mine : is_holder b.entry b.revision q ≡ false = nobody q in grind arith
 
-  returned : (n : ℕ) (f : L) (b : Block L) (o p : ℕ) → Invariant n f b → b.entry ≡ BusyExclusive o p true → (b.revision ≡ DirtyTransfer o) × ((q : ℕ) → q < n → b.copy q ≡ NoCopy) × (b.line ≡ f)
-  returned n f b o p inv e = (sender inv.home.revised, λ q lt. copyless n f b q nobody (none q) (inv.each q lt), line inv.home.memory)
+  returned : (n : ℕ) (f : L) (b : Block L) (o p : ℕ) → Invariant n f b → b.entry ≡ BusyExclusive o p true → (b.revision ≡ DirtyTransfer o) × ((q : ℕ) → q < n → b.copy q ≡ NoCopy) × (b.line ≡ f) × ((q : ℕ) → q < n → is_granted (b.ask q) ≡ true → b.want q ≡ Reading true)
+  returned n f b o p inv e = (sender inv.home.revised, λ q lt. copyless n f b q nobody (none q) (inv.each q lt), line inv.home.memory, λ q lt g. returned_marked n f b o p q (inv.each q lt) e g)
     where
       sender : Revised b.entry b.revision → b.revision ≡ DirtyTransfer o
       sender r = grind arith
@@ -102,12 +105,29 @@ module _ {L : Type 0} where
       same (Shared l) sh fr m = let x : l ≡ b.line = cc in cc
       same c sh fr m = absurd (grind arith)
 
+  slot_busy : (b : Block L) (q : ℕ) → Backs b q → b.victim q ≡ Busy → has_intervention (b.intervention q) ≡ true
+  slot_busy b q k e = grind (arith, nat_tests)
+
+  slot_seen : (k : Back L) (v : Victim) (i : Intervention) → Fits_back v k i → v ≡ Seen → (is_write_back k ≡ true) ⊎ (is_busy_ack k ≡ true)
+  slot_seen (WriteBack l) v i h e = inl refl
+  slot_seen WriteBackBusyAck v i h e = inr refl
+  slot_seen k v i h e = absurd (grind arith)
+
+  slot_taken : (k : Back L) (v : Victim) (i : Intervention) → Fits_back v k i → v ≡ Taken → (is_write_back k ≡ true) ⊎ ((is_ack k ≡ true) ⊎ (is_busy_ack k ≡ true))
+  slot_taken (WriteBack l) v i h e = inl refl
+  slot_taken WriteBackAck v i h e = inr (inl refl)
+  slot_taken WriteBackBusyAck v i h e = inr (inr refl)
+  slot_taken k v i h e = absurd (grind arith)
+
   pub races : (n : ℕ) (f : L) (b : Block L) → Invariant n f b → ((q : ℕ) → q < n → Handed b q) → Races n f b
   races n f b inv hd = record {
-    given = λ o p e. (let lp : p < n = within inv.home.inside e in given n f b o p b.revision inv.home (inv.each p lp) (hd p lp) e refl);
+    given = λ o p lo e. (let lp : p < n = within inv.home.inside e in given n f b o p b.revision inv.home (inv.each o lo) (inv.each p lp) (hd p lp) e refl);
     returned = λ o p e. returned n f b o p inv e;
     invalidated = λ q r lt is. invalidated n f b q r inv hd lt is;
     upgrading = λ q s lt k e is a. upgrading n f b q s inv.home (inv.each q lt) k e is a;
+    busy = λ q lt e. slot_busy b q (inv.each q lt).backs e;
+    seen = λ q lt e. slot_seen (b.back q) (b.victim q) (b.intervention q) (inv.each q lt).backs e;
+    taken = λ q lt e. slot_taken (b.back q) (b.victim q) (b.intervention q) (inv.each q lt).backs e;
   }
     where
       within : {o p : ℕ} → Inside n b.entry → b.entry ≡ BusyExclusive o p false → p < n

@@ -1,8 +1,9 @@
 -- What balances in every state, and what the tables' conditions rest on: each call that handles a message of this block
 -- finds what it asks for.
 use Rattle.std.specs.Prelude.{◌≡◌, ℕ, ◌+◌, ◌<◌, Bool, true, false, cond, ◌≢◌}
-use Rattle.og_block.specs.State.{NoCopy, Idle, Upgrading, Ask, NoAsk, SpeculativeReply, ExclusiveReply, UpgradeReply, PoisonReply, NoResponse, Back, WriteBackAck, WriteBackBusyAck, Victim, Free, Taken, Busy, Seen, Invalidate, InvalidateAck, Exclusive, Block}
+use Rattle.og_block.specs.State.{NoCopy, Idle, Upgrading, Ask, NoAsk, SpeculativeReply, ExclusiveReply, UpgradeReply, PoisonReply, NoResponse, Back, WriteBackAck, WriteBackBusyAck, Victim, Free, Taken, Busy, Seen, Invalidate, InvalidateAck, Exclusive, BusyPoison, PoisonWait, Block}
 use Rattle.og_block.specs.Rows.{has_exclusive, has_response, has_intervention}
+use Rattle.og_block.specs.Invariant.{Fits_ask, Revised}
 use Rattle.og_block.specs.Views.{is_holder, is_asked, awaits_shared, awaits_exclusive, is_write_back, is_shared, is_upgrade, grants, pending}
 
 abbrev pub number : Bool → ℕ
@@ -73,3 +74,9 @@ module _ {L : Type 0} where
     pub busy_acknowledged : is_busy_ack (b.back q) ≡ true → (is_taken (b.victim q) ≡ true) × (is_victim_busy (b.victim q) ≡ false)
     -- a write-back is from the holder
     pub write_back : is_write_back (b.back q) ≡ true → is_holder b.entry b.revision q ≡ true
+    -- the reply, the owner's response and the acknowledgements are of the kinds that the request waits for
+    pub parts : Fits_ask (b.want q) (b.ask q) (b.response q) (b.acks q)
+    -- the owner's message to the home is from the owner that a busy entry names, and of that entry's kind
+    pub revision : Revised b.entry b.revision
+    -- while the home waits for the owner on the mover's behalf, no message of the mover's request stands
+    pub poison : (owner : ℕ) → b.entry ≡ BusyPoison owner q → b.ask q ≡ PoisonWait

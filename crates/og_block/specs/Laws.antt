@@ -1,12 +1,15 @@
 -- What is claimed of one block, and of many, in every run from the start: whatever rows are taken, in any order in which
 -- they may be taken, by any number of actors, with one node for a bit of the sharers or a group.
-use Rattle.std.specs.Prelude.{ℕ, ◌<◌, List}
+use Rattle.std.specs.Prelude.{◌≡◌, ℕ, ◌<◌, true, false, List}
 use Rattle.og_block.specs.State.{Sharing, Block, start}
-use Rattle.og_block.specs.Rows.{Row}
-use Rattle.og_block.specs.Access.{FlatRun, flat_end}
+use Rattle.og_block.specs.Rows.{Row, guard, apply, actor_of}
+use Rattle.og_block.specs.Access.{FlatRun, flat_after, flat_end}
+use Rattle.og_block.specs.Invariant.{Invariant}
+use Rattle.og_block.specs.Slots.{writes, takes, is_in}
+use Rattle.og_block.specs.Moves.{Moves}
 use Rattle.og_block.specs.Held.{Held}
-use Rattle.og_block.specs.Message.{Served, DistinctCharges}
-use Rattle.og_block.specs.Balance.{Balanced, Finds_ready}
+use Rattle.og_block.specs.Message.{Message, Stands, Served, DistinctCharges}
+use Rattle.og_block.specs.Balance.{Balanced, Finds_ready, due}
 use Rattle.og_block.specs.Races.{Races}
 use Rattle.og_block.specs.Roles.{OwnBit, Plays}
 use Rattle.og_block.specs.Run.{Step, Reaches, OneWriter, Runs_all, FlatRun_all, flat_end_all}
@@ -22,6 +25,40 @@ WriterIsAlone L = (n : ℕ) (sharing : Sharing) (memory : L) (rows : List (Row L
 -- the line that is held is the cell's, at each moment
 abbrev pub HeldIsFlat : (L : Type 0) → Type 0
 HeldIsFlat L = (n : ℕ) (sharing : Sharing) (memory : L) (rows : List (Row L)) (b : Block L) → Reaches n sharing memory rows b → Held n (flat_end memory rows) b
+
+-- the invariant holds at the start, each row keeps it, and so it holds at the end of each run
+abbrev pub InvariantStarts : (L : Type 0) → Type 0
+InvariantStarts L = (n : ℕ) (sharing : Sharing) (memory : L) → Invariant n memory (start sharing memory)
+
+abbrev pub InvariantKept : (L : Type 0) → Type 0
+InvariantKept L = (n : ℕ) (cell : L) (b : Block L) (row : Row L) → guard row b → actor_of row < n → Invariant n cell b → Invariant n (flat_after row cell) (apply n row b)
+
+abbrev pub InvariantHolds : (L : Type 0) → Type 0
+InvariantHolds L = (n : ℕ) (sharing : Sharing) (memory : L) (rows : List (Row L)) (b : Block L) → Reaches n sharing memory rows b → Invariant n (flat_end memory rows) b
+
+-- a row changes no slot but those that it writes
+abbrev pub RowsLeaveOthers : (L : Type 0) → Type 0
+RowsLeaveOthers L = (n : ℕ) (b : Block L) (row : Row L) (m : Message L) → is_in (writes row) m ≡ false → Stands n b m → Stands n (apply n row b) m
+
+-- what it sends, it sends into a slot that is empty, or from which it takes
+abbrev pub RowsSendIntoEmpty : (L : Type 0) → Type 0
+RowsSendIntoEmpty L = (n : ℕ) (cell : L) (b : Block L) (row : Row L) (m : Message L) → Invariant n cell b → guard row b → actor_of row < n → is_in (writes row) m ≡ true → is_in (takes row) m ≡ false → ¬ Stands n b m
+
+-- so each message that stands, stands after it, but those that it takes
+abbrev pub OthersStay : (L : Type 0) → Type 0
+OthersStay L = (n : ℕ) (cell : L) (b : Block L) (row : Row L) (m : Message L) → Invariant n cell b → guard row b → actor_of row < n → is_in (takes row) m ≡ false → Stands n b m → Stands n (apply n row b) m
+
+-- what a bit of the sharers stands for never changes
+abbrev pub SharingStays : (L : Type 0) → Type 0
+SharingStays L = (n : ℕ) (row : Row L) (b : Block L) → (apply n row b).sharing ≡ b.sharing
+
+-- a reply names fewer acknowledgements than there are actors
+abbrev pub RepliesBounded : (L : Type 0) → Type 0
+RepliesBounded L = (n : ℕ) (sharing : Sharing) (memory : L) (rows : List (Row L)) (b : Block L) → Reaches n sharing memory rows b → (q : ℕ) → q < n → due (b.ask q) < n
+
+-- where an actor has something outstanding, or a victim, a message of the block stands that doesn't only wait
+abbrev pub WaitersMove : (L : Type 0) → Type 0
+WaitersMove L = (n : ℕ) (sharing : Sharing) (memory : L) (rows : List (Row L)) (b : Block L) → Reaches n sharing memory rows b → (q : ℕ) → q < n → Moves L n b q
 
 -- messages that stand at one moment have different keys
 abbrev pub ChargesDiffer : (L : Type 0) → Type 0

@@ -1,8 +1,9 @@
 -- How the races stand: what holds while a block is between two states.
 use Rattle.std.specs.Prelude.{◌≡◌, ℕ, ◌<◌, Bool, true, false, cond, nat_eq, ◌⊎◌}
-use Rattle.og_block.specs.State.{Copy, NoCopy, Shared, Want, Ask, Upgrade, Response, Back, Entry, SharedBy, Exclusive, BusyShared, BusyExclusive, BusyPoison, PoisonBy, Revision, NoRevision, DirtyTransfer, Single, Block}
-use Rattle.og_block.specs.Rows.{has_exclusive, is_dirty}
-use Rattle.og_block.specs.Views.{is_write_back, was_given, is_asked, waits_exclusive, grants, is_for}
+use Rattle.og_block.specs.State.{Copy, NoCopy, Shared, Want, Reading, Ask, Upgrade, SharedReply, SpeculativeReply, ExclusiveReply, UpgradeReply, Response, Back, Taken, Busy, Seen, Entry, SharedBy, Exclusive, BusyShared, BusyExclusive, BusyPoison, PoisonBy, Revision, NoRevision, DirtyTransfer, Single, Block}
+use Rattle.og_block.specs.Rows.{has_exclusive, has_intervention, is_dirty}
+use Rattle.og_block.specs.Views.{is_write_back, was_given, waits_exclusive, grants, is_for}
+use Rattle.og_block.specs.Balance.{is_ack, is_busy_ack}
 
 -- the entry names r as its owner, or the mover r as the one that poisons
 abbrev pub names : Entry → ℕ → Bool
@@ -27,14 +28,35 @@ module _ {L : Type 0} where
   abbrev pub Handed : Block L → ℕ → Type 0
   Handed b q = gets b.entry b.revision q ≡ true → is_handed (b.copy q) (b.want q) (b.ask q) (b.response q) (b.back q) ≡ true
 
+  -- the home has replied that it grants the block
+  abbrev pub is_granted : Ask L → Bool
+  is_granted (SharedReply l) = true
+  is_granted (SpeculativeReply l) = true
+  is_granted (ExclusiveReply l d) = true
+  is_granted (UpgradeReply d) = true
+  is_granted a = false
+
+  -- o is asked to give the block to p, which waits, and hasn't answered: it has the intervention, or wrote the block back
+  pub record Unheard (b : Block L) (o p : ℕ) : Type 0 where
+    pub silent : b.revision ≡ NoRevision
+    pub waits : waits_exclusive (b.want p) (b.ask p) (b.response p) ≡ true
+    pub asked : (has_intervention (b.intervention o) ≡ true) ⊎ (is_write_back (b.back o) ≡ true)
+
   -- f is the line of the memory cell
   pub record Races (n : ℕ) (f : L) (b : Block L) : Type 0 where
-    -- given to p by o, which may not be heard of yet: p waits for it; or p has the response, or a dirty copy, or writes back
-    pub given : (o p : ℕ) → b.entry ≡ BusyExclusive o p false → ((b.revision ≡ NoRevision) × (waits_exclusive (b.want p) (b.ask p) (b.response p) ≡ true) × (is_asked b.entry b.revision o ≡ true)) ⊎ ((b.revision ≡ DirtyTransfer o) × (is_handed (b.copy p) (b.want p) (b.ask p) (b.response p) (b.back p) ≡ true))
-    -- given to p, and written back by it before o is heard of: nobody has a copy, and the home has the line
-    pub returned : (o p : ℕ) → b.entry ≡ BusyExclusive o p true → (b.revision ≡ DirtyTransfer o) × ((q : ℕ) → q < n → b.copy q ≡ NoCopy) × (b.line ≡ f)
+    -- given to p by o. Either o isn't heard of, and p waits: then the intervention is with o or on its way, or o's write-back
+    -- is. Or o's word is on its way: then p has the response, or a dirty copy, or writes back
+    pub given : (o p : ℕ) → o < n → b.entry ≡ BusyExclusive o p false → Unheard b o p ⊎ ((b.revision ≡ DirtyTransfer o) × (is_handed (b.copy p) (b.want p) (b.ask p) (b.response p) (b.back p) ≡ true))
+    -- given to p, and written back by it before o is heard of: nobody has a copy, the home has the line, and who has been
+    -- granted the block and waits still, waits with a marked read
+    pub returned : (o p : ℕ) → b.entry ≡ BusyExclusive o p true → (b.revision ≡ DirtyTransfer o) × ((q : ℕ) → q < n → b.copy q ≡ NoCopy) × (b.line ≡ f) × ((q : ℕ) → q < n → is_granted (b.ask q) ≡ true → b.want q ≡ Reading true)
     -- an invalidation of q, or its acknowledgement: its requester waits for it, and is the one that the entry names; q has
     -- no copy that it may write, and none is on its way
     pub invalidated : (q r : ℕ) → q < n → is_for r (b.invalidation q) ≡ true → (grants (b.ask r) ≡ true) × (names b.entry r ≡ true) × (has_exclusive (b.copy q) ≡ false) × (grants (b.ask q) ≡ false) × (was_given (b.want q) (b.ask q) (b.response q) ≡ false)
     -- an upgrade of a sharer has its copy, which is the home's line, where a bit names one node
     pub upgrading : (q : ℕ) (s : ℕ → Bool) → q < n → b.sharing ≡ Single → b.entry ≡ SharedBy s → s q ≡ true → b.ask q ≡ Upgrade → b.copy q ≡ Shared b.line
+    -- a victim slot that is busy has an intervention for its block; one that has seen it has its write-back or the busy
+    -- acknowledgement; any other has its write-back or one of the acknowledgements
+    pub busy : (q : ℕ) → q < n → b.victim q ≡ Busy → has_intervention (b.intervention q) ≡ true
+    pub seen : (q : ℕ) → q < n → b.victim q ≡ Seen → (is_write_back (b.back q) ≡ true) ⊎ (is_busy_ack (b.back q) ≡ true)
+    pub taken : (q : ℕ) → q < n → b.victim q ≡ Taken → (is_write_back (b.back q) ≡ true) ⊎ ((is_ack (b.back q) ≡ true) ⊎ (is_busy_ack (b.back q) ≡ true))

@@ -9,7 +9,7 @@
 //! function is a law, its contract, with an empty body. `L` is the type of a line; no row looks inside one.
 #![tactic(auto)]
 
-ghost use Rattle.og_block.specs.Laws.{AccessesAreFlat, WriterIsAlone, HeldIsFlat, ChargesDiffer, MessagesBalance, MessagesFindReady, MessagesAreServed, RacesStand, AllAccessesAreFlat, AllAreHeld};
+ghost use Rattle.og_block.specs.Laws.{AccessesAreFlat, WriterIsAlone, HeldIsFlat, ChargesDiffer, MessagesBalance, MessagesFindReady, MessagesAreServed, RacesStand, InvariantStarts, InvariantKept, InvariantHolds, RowsLeaveOthers, RowsSendIntoEmpty, OthersStay, SharingStays, RepliesBounded, WaitersMove, AllAccessesAreFlat, AllAreHeld};
 
 /// Every load, and every atomic's and conditional's old line, is that of one memory cell, and the cell
 /// is what the writes in their order make: hits, fills from the home, and fills by the owner's answer.
@@ -26,6 +26,32 @@ pub fn writer_is_alone<L>()
 /// or else in the home's memory.
 pub fn held_is_flat<L>()
     ensures { HeldIsFlat L }
+{}
+
+/// The invariant holds at the start, and each row keeps it.
+pub fn invariant_is_kept<L>()
+    ensures starts { InvariantStarts L }
+    ensures kept { InvariantKept L }
+    ensures holds { InvariantHolds L }
+{}
+
+/// A row leaves each message that stands but those that it takes: it writes no other slot, and sends only into empty ones
+/// or where it took. So what is said of all messages in flight is said once for all rows.
+pub fn messages_stay<L>()
+    ensures left { RowsLeaveOthers L }
+    ensures sent { RowsSendIntoEmpty L }
+    ensures stay { OthersStay L }
+    ensures sharing { SharingStays L }
+{}
+
+/// A reply names fewer acknowledgements than there are actors. The invariant alone doesn't say it.
+pub fn replies_are_bounded<L>()
+    ensures { RepliesBounded L }
+{}
+
+/// Whoever waits for the block, waits for a message that can be taken, and not only for another that waits.
+pub fn something_moves<L>()
+    ensures { WaitersMove L }
 {}
 
 /// Each message that stands meets a row that takes it, or waits for the other parts of its request, or

@@ -5,8 +5,6 @@
 //! call on the queue is a type here, which says what the call makes of the pass's sight and what it
 //! learns of the queue.
 
-ghost use Rattle.std.specs.Prelude.{◌≡◌};
-
 use crate::Scheme;
 use crossbeam_queue::protocol::{Join, Lesson, Outcome, Protocol, Split};
 use og_runs::Msg;

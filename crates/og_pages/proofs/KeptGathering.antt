@@ -2,7 +2,7 @@
 use Rattle.std.proofs.Common.{ℕ, arith}
 use Rattle.std.proofs.lemmas.Bool.Decides.{nat_tests}
 use Rattle.og_pages.specs.State.{State}
-use Rattle.og_pages.specs.Rows.{Row, guard, apply, Walk_send, Walk_answer, Walk_refuse, Walk_fill, Walk_retry, Tlb_forget, Load_hit, Store_hit, Request_send, Fill_load, Fill_store, Request_end, Copy_lose, Victim_put, Victim_free, Notice_send, Move_begin, Notice_refuse, Rearm_serve, Poison_send, Poison_refuse, Poison_collect, Copy_send, Copy_serve, Copy_next, Copy_last, Publish_page, Reclaim_begin, Drop_send_all, Drop_answer, Drop_take, Gather_end, Clean_send, Clean_serve, Frame_free}
+use Rattle.og_pages.specs.Rows.{Row, guard, apply, Walk_send, Walk_answer, Walk_refuse, Walk_fill, Walk_retry, Tlb_forget, Load_hit, Store_hit, Request_send, Fill_load, Fill_store, Request_end, Victim_put, Victim_free, Notice_send, Move_begin, Notice_refuse, Rearm_serve, Poison_send, Poison_refuse, Poison_collect, Copy_send, Copy_serve, Copy_next, Copy_last, Publish_page, Reclaim_begin, Drop_send_all, Drop_answer, Drop_take, Gather_end, Clean_send, Clean_serve, Frame_free}
 use Rattle.og_pages.specs.Invariant.{Invariant, Gathering}
 
 pub gathering_kept : {L : Type 0} → (pages blocks : ℕ) (s : State L) (r : Row L) → guard pages blocks r s → Invariant L pages blocks s → (at_node : ℕ) → Gathering pages blocks (apply r s) at_node
@@ -18,7 +18,6 @@ gathering_kept pages blocks s (Request_send node page frame number) g inv at_nod
 gathering_kept pages blocks s (Fill_load node page frame number) g inv at_node = grind (arith, nat_tests, inv.gathering at_node)
 gathering_kept pages blocks s (Fill_store node page frame number line) g inv at_node = grind (arith, nat_tests, inv.gathering at_node)
 gathering_kept pages blocks s (Request_end node page frame number) g inv at_node = grind (arith, nat_tests, inv.gathering at_node)
-gathering_kept pages blocks s (Copy_lose node frame number) g inv at_node = grind (arith, nat_tests, inv.gathering at_node)
 gathering_kept pages blocks s (Victim_put node frame number) g inv at_node = grind (arith, nat_tests, inv.gathering at_node)
 gathering_kept pages blocks s (Victim_free node frame number) g inv at_node = grind (arith, nat_tests, inv.gathering at_node)
 gathering_kept pages blocks s (Notice_send node page frame number) g inv at_node = grind (arith, nat_tests, inv.gathering at_node)

@@ -22,3 +22,4 @@ pub mod Runs
 pub mod Safe
 pub mod PoolsKept
 pub mod TlbFilled
+pub mod TlbDropped

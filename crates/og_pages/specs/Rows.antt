@@ -29,8 +29,6 @@ pub data Row (L : Type 0) : Type 0 where
   Fill_store : (node page frame number : ℕ) (line : L) → Row L
   -- the request ends without a copy: refused, met by an invalidation, or for a poisoned block
   Request_end : (node page frame number : ℕ) → Row L
-  -- a node has no copy any more: thrown out clean, invalidated, or handed on
-  Copy_lose : (node frame number : ℕ) → Row L
   -- a dirty copy is thrown out, into the free victim slot; the slot is free again
   Victim_put : (node frame number : ℕ) → Row L
   Victim_free : (node frame number : ℕ) → Row L
@@ -106,7 +104,6 @@ guard pages blocks (Request_send node page frame number) s = (s.tlb node page �
 guard pages blocks (Fill_load node page frame number) s = (s.request node ≡ Outstanding page frame number) × (is_dead (s.phase frame number) ≡ false)
 guard pages blocks (Fill_store node page frame number line) s = (s.request node ≡ Outstanding page frame number) × (is_dead (s.phase frame number) ≡ false)
 guard pages blocks (Request_end node page frame number) s = s.request node ≡ Outstanding page frame number
-guard pages blocks (Copy_lose node frame number) s = Unit {0}
 guard pages blocks (Victim_put node frame number) s = (s.victim node ≡ NoVictim) × (s.cached frame number node ≡ true)
 guard pages blocks (Victim_free node frame number) s = s.victim node ≡ VictimOf frame number
 guard pages blocks (Notice_send node page frame number) s = (s.request node ≡ Outstanding page frame number) × (is_dead (s.phase frame number) ≡ false) × (s.noticed frame ≡ false)
@@ -144,7 +141,6 @@ apply (Request_send node page frame number) s = record s { request = put s.reque
 apply (Fill_load node page frame number) s = record s { request = put s.request node NoRequest; cached = put_triple s.cached frame number node true }
 apply (Fill_store node page frame number line) s = record s { request = put s.request node NoRequest; cached = put_triple s.cached frame number node true; newest = put_pair s.newest frame number line; memory = put_pair s.memory page number line }
 apply (Request_end node page frame number) s = record s { request = put s.request node NoRequest }
-apply (Copy_lose node frame number) s = record s { cached = put_triple s.cached frame number node false }
 apply (Victim_put node frame number) s = record s { victim = put s.victim node (VictimOf frame number); cached = put_triple s.cached frame number node false }
 apply (Victim_free node frame number) s = record s { victim = put s.victim node NoVictim }
 apply (Notice_send node page frame number) s = record s { notice = put s.notice frame Hot; noticed = put s.noticed frame true }

@@ -1,7 +1,7 @@
 -- A node's TLB as a list of slots, and the rows that a fill of a slot makes.
 use Rattle.std.specs.Prelude.{◌≡◌, ℕ, zero, suc, Bool, true, false, cond, nat_eq, List, [], ◌∷◌}
 use Rattle.og_pages.specs.State.{State, TlbEntry, NoEntry, To}
-use Rattle.og_pages.specs.Rows.{apply, Tlb_forget, Walk_fill}
+use Rattle.og_pages.specs.Rows.{apply, points_to, Tlb_forget, Walk_fill, Drop_answer}
 
 pub data Slot : Type 0 where
   Empty : Slot
@@ -57,3 +57,22 @@ Shows slots s node = (page : ℕ) → look_up page slots ≡ s.tlb node page
 abbrev pub FillIsRows : (L : Type 0) → Type 0
 FillIsRows L = (s : State L) (slots : List Slot) (index node page frame : ℕ) → IsDistinct slots → has_slot slots index ≡ true → look_up page slots ≡ NoEntry → Shows slots s node →
     Shows (with_slot slots index (Filled page frame)) (after_fill node page frame (slot_at slots index) s) node × IsDistinct (with_slot slots index (Filled page frame))
+
+-- a slot for the page, or with the frame, becomes empty
+abbrev pub without_page : ℕ → List Slot → List Slot
+without_page page [] = []
+without_page page (slot ∷ slots) = cond (is_for slot page) Empty slot ∷ without_page page slots
+
+abbrev pub without_frame : ℕ → List Slot → List Slot
+without_frame frame [] = []
+without_frame frame (slot ∷ slots) = cond (points_to frame (entry_of slot)) Empty slot ∷ without_frame frame slots
+
+-- dropping the slot of a page is the row that forgets the page
+abbrev pub ForgetIsRow : (L : Type 0) → Type 0
+ForgetIsRow L = (s : State L) (slots : List Slot) (node page : ℕ) → IsDistinct slots → Shows slots s node →
+    Shows (without_page page slots) (apply (Tlb_forget node page) s) node × IsDistinct (without_page page slots)
+
+-- dropping all slots with a frame is what answering a drop request does to the TLB
+abbrev pub DropIsRow : (L : Type 0) → Type 0
+DropIsRow L = (s : State L) (slots : List Slot) (node frame : ℕ) → IsDistinct slots → Shows slots s node →
+    Shows (without_frame frame slots) (apply (Drop_answer node frame) s) node × IsDistinct (without_frame frame slots)

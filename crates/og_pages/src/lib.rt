@@ -12,8 +12,8 @@
 #![tactic(auto)]
 
 ghost use Rattle.og_pages.specs.Claims.{InEachState, Starts, IsKept, GoesOn, AccessesAnswered, LinesHeld, CopiesPlaced, FramesApart, FreeUnnamed, TargetUnnamed, OnlyHolders, Served, MoverWaits};
-ghost use Rattle.og_pages.specs.Pools.{FreeListed, BeginKeeps, PublishKeeps, ReclaimKeeps, RolesStay};
-ghost use Rattle.og_pages.specs.TlbSlots.{FillIsRows};
+ghost use Rattle.og_pages.specs.Pools.{FreeListed, QuarantineListed, BeginKeeps, PublishKeeps, ReclaimKeeps, RolesStay};
+ghost use Rattle.og_pages.specs.TlbSlots.{FillIsRows, ForgetIsRow, DropIsRow};
 
 /// The invariant holds at the start, and each row keeps it. A run that goes on from a state that rows lead to is such a run.
 pub fn invariant_is_kept<L>()
@@ -49,16 +49,21 @@ pub fn mover_waits_for_something<L>()
     ensures waits { InEachState L MoverWaits }
 {}
 
-/// The mover's lists of free frames and of frames in quarantine follow the frames' roles through every row.
+/// The mover's lists of free frames and of frames in quarantine, at the homes that there are, follow the frames' roles
+/// through every row.
 pub fn pools_follow_roles<L>()
     ensures listed { FreeListed }
+    ensures quarantined { QuarantineListed }
     ensures begun { BeginKeeps L }
     ensures published { PublishKeeps L }
     ensures reclaimed { ReclaimKeeps L }
     ensures others { RolesStay L }
 {}
 
-/// A fill of a TLB slot is the rows that forget the page that stood there and fill the walk's page.
+/// A fill of a TLB slot is the rows that forget the page that stood there and fill the walk's page; the dropping of a page's
+/// slot is the row that forgets the page, and that of all slots with a frame is what the answer to a drop request does.
 pub fn tlb_slots_follow_entries<L>()
     ensures filled { FillIsRows L }
+    ensures forgotten { ForgetIsRow L }
+    ensures dropped { DropIsRow L }
 {}

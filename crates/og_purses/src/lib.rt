@@ -157,7 +157,7 @@ fn run_of<S: Scheme<Purse, u64, u64> + Send + Sync, R: Threads + Wait + Sync, G:
     requires room { actors * budget ≡ S.room }
     ensures logs { IfOk result (λ r. AreLogs S.rules S.start S.actors r.logs.items r.left.items) }
     ensures merged { IfOk result (λ r. IsSorted (joined (events_of r.logs.items)) r.events.items) }
-    ensures run { IfOk result (λ r. IsWholeRun S.rules S.start S.actors r.events.items r.left.items) }
+    ensures run { IfOk result (λ r. IsWholeRun S.rules S.start is_done S.actors r.rounds r.events.items r.left.items) }
     ensures counted { IfOk result (λ r. Counted (rounds * turns * S.actors) r.rounds (length (joined (events_of r.logs.items)))) }
 {
     let ring = Ring::<S> {
@@ -187,7 +187,7 @@ pub fn run<R: Threads + Wait + Sync, G: Gate + Sync>(
     requires few { rounds * turns < 2 ^ 40 }
     ensures logs { IfOk result (λ r. AreLogs (rules actors) (λ a. purse budget) actors r.logs.items r.left.items) }
     ensures merged { IfOk result (λ r. IsSorted (joined (events_of r.logs.items)) r.events.items) }
-    ensures run { IfOk result (λ r. IsWholeRun (rules actors) (λ a. purse budget) actors r.events.items r.left.items) }
+    ensures run { IfOk result (λ r. IsWholeRun (rules actors) (λ a. purse budget) is_done actors r.rounds r.events.items r.left.items) }
     ensures counted { IfOk result (λ r. Counted (rounds * turns * actors) r.rounds (length (joined (events_of r.logs.items)))) }
 {
     run_of::<Brand, R, G>(rt, alloc, gate, actors, budget, rounds, turns)

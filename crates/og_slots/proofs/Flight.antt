@@ -68,7 +68,7 @@ fits_coarser {M} key charge P h (m ∷ ms) fits = (fits.0, apart ms fits.1 fits.
     apart [] a f = tt
     apart (x ∷ ns) a f = (λ e. a.0 (h x m f.0 fits.0 e), apart ns a.1 f.2)
 
-apart_append : {M : Type 0} → {K : Type 0} → (key : M → K) (k : K) (ms xs : List M) → Apart key k ms → Apart key k xs → Apart key k (ms ++ xs)
+pub apart_append : {M : Type 0} → {K : Type 0} → (key : M → K) (k : K) (ms xs : List M) → Apart key k ms → Apart key k xs → Apart key k (ms ++ xs)
 apart_append key k [] xs a b = b
 apart_append key k (m ∷ ms) xs a b = (a.0, apart_append key k ms xs a.1 b)
 

@@ -21,3 +21,5 @@ pub mod Meets
 pub mod KeysApart
 pub mod KeyCount
 pub mod Story
+pub mod Worlds
+pub mod RacesStory

@@ -3,7 +3,7 @@ use Rattle.std.proofs.Common.{◌≡◌, ℕ, ◌<◌, true, false, arith}
 use Rattle.std.proofs.lemmas.Bool.Decides.{nat_tests}
 use Rattle.og_block.specs.State.{Block}
 use Rattle.og_pages.specs.State.{State as Pages}
-use Rattle.og_pages.specs.Rows.{Row as PageRow, guard as page_guard, apply as page_apply, Walk_send, Walk_answer, Walk_refuse, Walk_fill, Walk_retry, Tlb_forget, Load_hit, Store_hit, Request_send, Fill_load, Fill_store, Request_end, Copy_lose, Victim_put, Victim_free, Notice_send, Move_begin, Notice_refuse, Rearm_serve, Poison_send, Poison_refuse, Poison_collect, Copy_send, Copy_serve, Copy_next, Copy_last, Publish_page, Reclaim_begin, Drop_send_all, Drop_answer, Drop_take, Gather_end, Clean_send, Clean_serve, Frame_free}
+use Rattle.og_pages.specs.Rows.{Row as PageRow, guard as page_guard, apply as page_apply, Walk_send, Walk_answer, Walk_refuse, Walk_fill, Walk_retry, Tlb_forget, Load_hit, Store_hit, Request_send, Fill_load, Fill_store, Request_end, Victim_put, Victim_free, Notice_send, Move_begin, Notice_refuse, Rearm_serve, Poison_send, Poison_refuse, Poison_collect, Copy_send, Copy_serve, Copy_next, Copy_last, Publish_page, Reclaim_begin, Drop_send_all, Drop_answer, Drop_take, Gather_end, Clean_send, Clean_serve, Frame_free}
 use Rattle.og_pages.specs.Invariant.{Invariant as PagesInvariant}
 use Rattle.og_whole.specs.Kind.{phase_of}
 use Rattle.og_block.specs.Roles.{is_mover_want}
@@ -24,7 +24,6 @@ page_link actors mover s b f j (Request_send node page frame number) e link = ab
 page_link actors mover s b f j (Fill_load node page frame number) e link = absurd (cc)
 page_link actors mover s b f j (Fill_store node page frame number line) e link = absurd (cc)
 page_link actors mover s b f j (Request_end node page frame number) e link = absurd (cc)
-page_link actors mover s b f j (Copy_lose node frame number) e link = absurd (cc)
 page_link actors mover s b f j (Victim_put node frame number) e link = absurd (cc)
 page_link actors mover s b f j (Victim_free node frame number) e link = absurd (cc)
 page_link actors mover s b f j (Notice_send node page frame number) e link = link
@@ -61,7 +60,6 @@ page_entry pages blocks mover s f j b (Request_send node page frame number) may 
 page_entry pages blocks mover s f j b (Fill_load node page frame number) may inv lt of_pages phase want other = absurd (cc)
 page_entry pages blocks mover s f j b (Fill_store node page frame number line) may inv lt of_pages phase want other = absurd (cc)
 page_entry pages blocks mover s f j b (Request_end node page frame number) may inv lt of_pages phase want other = absurd (cc)
-page_entry pages blocks mover s f j b (Copy_lose node frame number) may inv lt of_pages phase want other = absurd (cc)
 page_entry pages blocks mover s f j b (Victim_put node frame number) may inv lt of_pages phase want other = absurd (cc)
 page_entry pages blocks mover s f j b (Victim_free node frame number) may inv lt of_pages phase want other = absurd (cc)
 page_entry pages blocks mover s f j b (Notice_send node page frame number) may inv lt of_pages phase want other = let h = inv.phases f j lt in grind (arith, nat_tests)

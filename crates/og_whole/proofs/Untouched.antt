@@ -5,7 +5,7 @@ use Rattle.std.proofs.lemmas.Bool.Decides.{nat_tests}
 use Rattle.og_block.specs.State.{Block, Unowned}
 use Rattle.og_block.specs.Rows.{Row as BlockRow, guard as block_guard, apply as block_apply, actor_of}
 use Rattle.og_pages.specs.State.{State as Pages, Live, Collecting, Outstanding}
-use Rattle.og_pages.specs.Rows.{Row as PageRow, guard as page_guard, apply as page_apply, Walk_send, Walk_answer, Walk_refuse, Walk_fill, Walk_retry, Tlb_forget, Load_hit, Store_hit, Request_send, Fill_load, Fill_store, Request_end, Copy_lose, Victim_put, Victim_free, Notice_send, Move_begin, Notice_refuse, Rearm_serve, Poison_send, Poison_refuse, Poison_collect, Copy_send, Copy_serve, Copy_next, Copy_last, Publish_page, Reclaim_begin, Drop_send_all, Drop_answer, Drop_take, Gather_end, Clean_send, Clean_serve, Frame_free}
+use Rattle.og_pages.specs.Rows.{Row as PageRow, guard as page_guard, apply as page_apply, Walk_send, Walk_answer, Walk_refuse, Walk_fill, Walk_retry, Tlb_forget, Load_hit, Store_hit, Request_send, Fill_load, Fill_store, Request_end, Victim_put, Victim_free, Notice_send, Move_begin, Notice_refuse, Rearm_serve, Poison_send, Poison_refuse, Poison_collect, Copy_send, Copy_serve, Copy_next, Copy_last, Publish_page, Reclaim_begin, Drop_send_all, Drop_answer, Drop_take, Gather_end, Clean_send, Clean_serve, Frame_free}
 use Rattle.og_pages.specs.Invariant.{Invariant as PagesInvariant, Requests}
 use Rattle.og_whole.specs.Kind.{Kind, Loads, Stores, Sends, Fills, Fills_store as Fills_and_stores, Ends, Evicts, Settles, Poisons, Collects, Copies, Inner, kind, phase_of, phase_after, is_idle}
 use Rattle.og_whole.specs.Events.{World, above, after_above, Asked, is_of_pages}
@@ -26,7 +26,6 @@ page_untouched pages blocks s b f j (Request_send node page frame number) may in
 page_untouched pages blocks s b f j (Fill_load node page frame number) may inv lt of_pages h = absurd (cc)
 page_untouched pages blocks s b f j (Fill_store node page frame number line) may inv lt of_pages h = absurd (cc)
 page_untouched pages blocks s b f j (Request_end node page frame number) may inv lt of_pages h = absurd (cc)
-page_untouched pages blocks s b f j (Copy_lose node frame number) may inv lt of_pages h = absurd (cc)
 page_untouched pages blocks s b f j (Victim_put node frame number) may inv lt of_pages h = absurd (cc)
 page_untouched pages blocks s b f j (Victim_free node frame number) may inv lt of_pages h = absurd (cc)
 page_untouched pages blocks s b f j (Notice_send node page frame number) may inv lt of_pages h = h

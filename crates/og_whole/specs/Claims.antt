@@ -5,13 +5,16 @@ use Rattle.og_block.specs.Rows.{Row as BlockRow, guard as block_guard, apply as 
 use Rattle.og_block.specs.Run.{OneWriter}
 use Rattle.og_block.specs.Held.{Held}
 use Rattle.og_block.specs.Message.{Message as BlockMessage, Stands, MayWait}
-use Rattle.og_pages.specs.State.{State as Pages, Ask, Wait, CopyIn, Role, Free as FreeRole, Outstanding}
-use Rattle.og_pages.specs.Rows.{is_dead}
+use Rattle.og_block.specs.Moves.{SomethingMoves, Moves}
+use Rattle.og_block.specs.Balance.{Finds_ready, Balanced, due}
+use Rattle.og_block.specs.Races.{Races}
+use Rattle.og_pages.specs.State.{State as Pages, Ask, Collect, Wait, NoCommand, CopyIn, NoNotice, NoDrop, Role, Free as FreeRole, Outstanding}
+use Rattle.og_pages.specs.Rows.{guard as page_guard, is_dead, Copy_send, Clean_send, Notice_send, Drop_send_all}
 use Rattle.og_pages.specs.Run.{Laid}
 use Rattle.og_pages.specs.Invariant.{place}
 use Rattle.og_whole.specs.Kind.{Kind, Stores, Fills_store, kind, has_copy, is_idle}
 use Rattle.og_block.specs.Roles.{OwnBit}
-use Rattle.og_whole.specs.Events.{World, Event, On, guard, apply, Runs, start, memory_of, FlatRun, Reached}
+use Rattle.og_whole.specs.Events.{World, Event, On, guard, apply, Runs, start, Answers, memory_after, memory_of, FlatRun, Reached}
 use Rattle.og_whole.specs.Link.{Invariant}
 
 -- ---- one flat memory of pages
@@ -82,6 +85,43 @@ pub record MeetsEvent (L : Type 0) (actors mover pages blocks : ℕ) (w : World 
 -- each message of a block meets an event, or waits for the other parts of its request, or is held while its node has a request
 abbrev pub BlocksServed : (L : Type 0) → (actors mover pages blocks : ℕ) → World L → Type 0
 BlocksServed L actors mover pages blocks w = (frame number : ℕ) (m : BlockMessage L) → number < blocks → Stands actors (w.block frame number) m → MeetsEvent L actors mover pages blocks w frame number m ⊎ MayWait (w.block frame number) m
+
+-- ---- blocks in each world
+
+-- what a message of a block finds at its receiver, and what balances there
+abbrev pub BlocksReady : (L : Type 0) → (actors mover pages blocks : ℕ) → World L → Type 0
+BlocksReady L actors mover pages blocks w = (frame number q : ℕ) → number < blocks → q < actors → Finds_ready actors (w.block frame number) q × Balanced actors (w.block frame number) q
+
+-- how the races of a block stand, whose memory cell is the page layer's newest line
+abbrev pub BlocksRace : (L : Type 0) → (actors mover pages blocks : ℕ) → World L → Type 0
+BlocksRace L actors mover pages blocks w = (frame number : ℕ) → number < blocks → Races actors (w.pages.newest frame number) (w.block frame number)
+
+-- a reply names fewer acknowledgements than there are actors
+abbrev pub RepliesBounded : (L : Type 0) → (actors mover pages blocks : ℕ) → World L → Type 0
+RepliesBounded L actors mover pages blocks w = (frame number q : ℕ) → number < blocks → q < actors → due ((w.block frame number).ask q) < actors
+
+-- whoever waits for a block, waits for a message of it that doesn't itself only wait
+abbrev pub WaitersMove : (L : Type 0) → (actors mover pages blocks : ℕ) → World L → Type 0
+WaitersMove L actors mover pages blocks w = (frame number q : ℕ) → number < blocks → q < actors → Moves L actors (w.block frame number) q
+
+-- so does the mover that collects a block
+abbrev pub CollectMoves : (L : Type 0) → (actors mover pages blocks : ℕ) → World L → Type 0
+CollectMoves L actors mover pages blocks w = (page old new number : ℕ) → w.pages.job ≡ Collect page old new number → (number < blocks) × SomethingMoves L actors (w.block old number)
+
+-- an event that may happen answers the flat memory of this very moment, and leaves it changed by its own store alone
+abbrev pub EventsAnswered : (L : Type 0) → (actors mover pages blocks : ℕ) → World L → Type 0
+EventsAnswered L actors mover pages blocks w = (event : Event L) → guard actors mover pages blocks event w → Answers w.pages.memory event × ((apply actors mover event w).pages.memory ≡ memory_after event w.pages.memory)
+
+-- what the mover, a home or the mover's telling sends on the page layer, it sends into an empty place
+pub record PagesSend (L : Type 0) (actors mover pages blocks : ℕ) (w : World L) : Type 0 where
+  pub copy : (page old new number : ℕ) (line : L) → page_guard pages blocks (Copy_send page old new number line) w.pages → w.pages.command ≡ NoCommand
+  pub clean : (frame : ℕ) → page_guard pages blocks (Clean_send frame) w.pages → w.pages.command ≡ NoCommand
+  pub notice : (node page frame number : ℕ) → page_guard pages blocks (Notice_send node page frame number) w.pages → w.pages.notice frame ≡ NoNotice
+  pub drop : (frame node : ℕ) → page_guard pages blocks (Drop_send_all frame) w.pages → w.pages.drop node ≡ NoDrop
+
+-- what a bit of the sharers stands for is the same in every block, and no event changes it
+abbrev pub SharingStays : (L : Type 0) → Type 0
+SharingStays L = (actors mover : ℕ) (event : Event L) (w : World L) (frame number : ℕ) → ((apply actors mover event w).block frame number).sharing ≡ (w.block frame number).sharing
 
 -- ---- laws
 

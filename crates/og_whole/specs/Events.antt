@@ -5,7 +5,7 @@ use Rattle.og_block.specs.State.{Sharing, Block, start as block_start}
 use Rattle.og_block.specs.Rows.{Row as BlockRow, guard as block_guard, apply as block_apply, actor_of}
 use Rattle.og_block.specs.Access.{Answers as BlockAnswers}
 use Rattle.og_pages.specs.State.{State as Pages, Ask, Collect, Wait, CopyIn, To, NoWalk, NoRequest, Outstanding, NoVictim, put_pair, Role, Mapped}
-use Rattle.og_pages.specs.Rows.{Row as PageRow, guard as page_guard, apply as page_apply, Load_hit, Store_hit, Request_send, Fill_load, Fill_store, Request_end, Copy_lose, Victim_put, Victim_free, Poison_send, Poison_refuse, Poison_collect, Copy_serve}
+use Rattle.og_pages.specs.Rows.{Row as PageRow, guard as page_guard, apply as page_apply, Load_hit, Store_hit, Request_send, Fill_load, Fill_store, Request_end, Victim_put, Victim_free, Poison_send, Poison_refuse, Poison_collect, Copy_serve}
 use Rattle.og_pages.specs.Run.{Laid, start as pages_start}
 use Rattle.og_whole.specs.Kind.{Kind, Loads, Stores, Sends, Fills, Fills_store, Ends, Evicts, Settles, Poisons, Collects, Copies, Inner, kind, fresh}
 use Rattle.og_block.specs.Roles.{OwnBit}
@@ -62,7 +62,6 @@ is_of_pages (Request_send p page frame number) = false
 is_of_pages (Fill_load p page frame number) = false
 is_of_pages (Fill_store p page frame number line) = false
 is_of_pages (Request_end p page frame number) = false
-is_of_pages (Copy_lose p frame number) = false
 is_of_pages (Victim_put p frame number) = false
 is_of_pages (Victim_free p frame number) = false
 is_of_pages (Poison_send page old new number) = false

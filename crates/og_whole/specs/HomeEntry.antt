@@ -1,6 +1,6 @@
 -- The entry that a home has. In the layer of blocks a block that was poisoned and collected stays the mover's until a copy
 -- gives it a line. At its home a cleaning makes the blocks of a frame Unowned, and there they wait for a copy.
-use Rattle.std.specs.Prelude.{◌≡◌, ℕ, ◌<◌, Bool, true, false}
+use Rattle.std.specs.Prelude.{◌≡◌, ◌≢◌, ℕ, ◌<◌, Bool, true, false}
 use Rattle.og_block.specs.State.{Entry, Unowned, PoisonBy}
 use Rattle.og_pages.specs.State.{State as Pages, Role, Free, Mapped, Target, Quarantined, Job, Command, Cleaning, CleanFrame, FrameClean, Wait, CopyIn, Outstanding, Collecting}
 use Rattle.og_pages.specs.Rows.{Row as PageRow, Clean_serve}
@@ -49,6 +49,10 @@ pub record EntriesMet (L : Type 0) (actors mover pages blocks : ℕ) (w : World 
 -- no row of the page layer that concerns no block changes an entry at a home, but the cleaning of the frame
 abbrev pub PageRowsKeepEntries : (L : Type 0) → Type 0
 PageRowsKeepEntries L = (actors mover pages blocks : ℕ) (w : World L) (row : PageRow L) (frame number : ℕ) → Reached L actors mover pages blocks w → guard actors mover pages blocks (Page row) w → cleans row ≡ false → number < blocks → home_entry_at (apply actors mover (Page row) w) frame number ≡ home_entry_at w frame number
+
+-- a cleaning leaves the entries of all other frames
+abbrev pub CleaningKeepsOthers : (L : Type 0) → Type 0
+CleaningKeepsOthers L = (actors mover pages blocks : ℕ) (w : World L) (cleaned frame number : ℕ) → guard actors mover pages blocks (Page (Clean_serve cleaned)) w → frame ≢ cleaned → home_entry_at (apply actors mover (Page (Clean_serve cleaned)) w) frame number ≡ home_entry_at w frame number
 
 -- no row of a block makes its own frame or another blank, or ends its being so
 abbrev pub BlockRowsKeepBlank : (L : Type 0) → Type 0

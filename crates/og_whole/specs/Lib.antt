@@ -5,3 +5,4 @@ pub mod HomeEntry
 pub mod Messages
 pub mod Claims
 pub mod Example
+pub mod Races

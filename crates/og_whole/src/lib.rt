@@ -2,8 +2,7 @@
 //!
 //! Below stand `og_pages` (pages on frames, the mover, walks, drops and notices) and `og_block` (the coherence of one block);
 //! `og_slots` counts messages. The page layer knows nothing of messages inside a block, and a block nothing of pages.
-//! `specs/Kind` says what the page layer sees of a block and of each of its rows, `specs/Actors` who plays which part in a
-//! block, `specs/Events` what happens and when, and `specs/Link` the invariant. An event is a row of the page layer, or a row
+//! `specs/Kind` says what the page layer sees of a block and of each of its rows, `specs/Events` what happens and when, and `specs/Link` the invariant. An event is a row of the page layer, or a row
 //! of one block with the page layer's row that goes with it; one event of the machine is a short list of these. Everything
 //! is for any type of lines, and any number of nodes, pages, frames and blocks in a page.
 //!
@@ -12,16 +11,19 @@
 #![tactic(auto)]
 
 ghost use Rattle.og_pages.specs.Claims.{FreeUnnamed, TargetUnnamed, OnlyHolders, Served, MoverWaits};
-ghost use Rattle.og_whole.specs.HomeEntry.{EntriesMet, PageRowsKeepEntries, BlockRowsKeepBlank};
+ghost use Rattle.og_whole.specs.Link.{Invariant};
+ghost use Rattle.og_whole.specs.HomeEntry.{EntriesMet, PageRowsKeepEntries, CleaningKeepsOthers, BlockRowsKeepBlank};
 ghost use Rattle.og_whole.specs.Messages.{KeysApart, AtMostKeys};
-ghost use Rattle.og_whole.specs.Claims.{InEachWorld, InEachPages, Starts, IsKept, GoesOn, AccessesFlat, MemoryFollows, LinesHeld, StoresLand, WriterAlone, CopiesPlaced, FreeClear, PoisonServed, BlocksServed};
+ghost use Rattle.og_whole.specs.Claims.{InEachWorld, InEachPages, Starts, IsKept, GoesOn, AccessesFlat, MemoryFollows, LinesHeld, StoresLand, WriterAlone, CopiesPlaced, FreeClear, PoisonServed, BlocksServed, BlocksReady, BlocksRace, RepliesBounded, WaitersMove, CollectMoves, EventsAnswered, PagesSend, SharingStays};
 ghost use Rattle.og_whole.specs.Example.{Happens};
+ghost use Rattle.og_whole.specs.Races.{RacesHappen};
 
-/// The invariant of the whole holds at the start, and each event that may happen keeps it. Events that go on from
-/// a world that events lead to are such a run.
+/// The invariant of the whole holds at the start, each event that may happen keeps it, and so it holds in each world.
+/// Events that go on from a world that events lead to are such a run.
 pub fn invariant_is_kept<L>()
     ensures starts { Starts L }
     ensures kept { IsKept L }
+    ensures holds { InEachWorld L Invariant }
     ensures goes_on { GoesOn L }
 {}
 
@@ -31,6 +33,7 @@ pub fn invariant_is_kept<L>()
 pub fn memory_is_flat<L>()
     ensures accesses { AccessesFlat L }
     ensures follows { MemoryFollows L }
+    ensures answered { InEachWorld L EventsAnswered }
     ensures held { InEachWorld L LinesHeld }
     ensures stores { InEachWorld L StoresLand }
 {}
@@ -62,17 +65,32 @@ pub fn messages_meet_rows<L>()
 
 /// The entry that a home has is the block's, but in a frame that is blank (free, a target, or cleaned): there each block is
 /// Unowned. A cleaning finds every block of its frame poisoned and leaves it Unowned, and a copy comes in at an Unowned block.
-/// No row of the page layer alone changes an entry at a home but a cleaning, and no row of a block makes a frame blank or ends
+/// No row of the page layer alone changes an entry at a home but a cleaning, which leaves those of other frames, and no row of a block makes a frame blank or ends
 /// its being so.
 pub fn home_entries_follow<L>()
     ensures met { InEachWorld L EntriesMet }
     ensures page_rows { PageRowsKeepEntries L }
+    ensures cleaning { CleaningKeepsOthers L }
     ensures block_rows { BlockRowsKeepBlank L }
 {}
 
-/// A mover without an act waits for something that is there. That it comes is not claimed.
+/// What the laws of one block say, holds of each block in each world: what messages find, what balances, how the races stand,
+/// that a reply names fewer acknowledgements than there are actors. What the page layer sends meets an empty place, and no
+/// event changes what a bit of the sharers stands for.
+pub fn blocks_stand<L>()
+    ensures ready { InEachWorld L BlocksReady }
+    ensures races { InEachWorld L BlocksRace }
+    ensures bounded { InEachWorld L RepliesBounded }
+    ensures sent { InEachWorld L PagesSend }
+    ensures sharing { SharingStays L }
+{}
+
+/// A mover without an act waits for something that is there: in Collect for a message of the block, that can be taken now.
+/// So does each node that has a request or a victim. That it comes is not claimed.
 pub fn mover_waits_for_something<L>()
     ensures waits { InEachPages L MoverWaits }
+    ensures collects { InEachWorld L CollectMoves }
+    ensures nodes { InEachWorld L WaitersMove }
 {}
 
 /// Any two messages in flight have different keys, so there are at most as many as keys. The key of an intervention is by the
@@ -85,4 +103,10 @@ pub fn keys_are_distinct<L>()
 /// The laws are not empty: a run with a store, a move, a poison error, a drop, a freed frame and a move back into it happens.
 pub fn example_happens()
     ensures happens { Happens }
+{}
+
+/// Nor are those on races, and on groups of sharers: a run of two nodes in one group with an intervention that is answered with
+/// a dirty line, an upgrade that is answered with the line, and a write-back that crosses an intervention happens.
+pub fn races_happen()
+    ensures happens { RacesHappen }
 {}
