@@ -85,6 +85,14 @@ impl Cache {
         })
     }
 
+    /// Each block stands in its set, and in no two ways: what the laws on look-ups ask of a cache.
+    pub fn stays_sound(&self)
+        ensures { IsCache self.now }
+    {
+        let _sets = self.sets;
+        let _ = &self.places;
+    }
+
     /// The mode of a block, None exactly where it isn't there.
     #[tactic(auto, unfolding(crate::specs::Cache::look_of))]
     pub fn look(&self, block: Block) -> Option<Mode>

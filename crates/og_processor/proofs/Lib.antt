@@ -1,0 +1,4 @@
+pub mod Rows
+pub mod Copies
+pub mod Parts
+pub mod Ends
