@@ -17,11 +17,11 @@
 ghost use Rattle.std.specs.Prelude.{◌≡◌, ◌↔◌, ◌≤◌, ◌<◌, ◌+◌, ◌*◌, ◌/◌, ◌%◌, ◌^◌, ◌++◌, ◌&&◌, ℕ, IfOk, IsTrue, length, map, nat_le, nat_lt, slice_index_or, if◌then◌else◌};
 ghost use Rattle.og_base.specs.Numbers.{below};
 ghost use Rattle.og_directory.specs.Table.{is_counted, IsFromItsSender};
-ghost use Rattle.og_home.specs.Home.{HasRow, HasBlockRow, IsOwnFrame, IsToBeCleaned, IsJudged, is_poison, are_poisoned, serve as served_by, serve_row as row_served, serve_block as block_served, count_request as request_counted, clean_frame as frame_cleaned, rearm as frame_rearmed};
+ghost use Rattle.og_home.specs.Home.{HasRow, HasBlockRow, IsOwnFrame, IsToBeCleaned, IsJudged, is_poison, are_poisoned, notice_letters, serve as served_by, serve_row as row_served, serve_block as block_served, count_request as request_counted, clean_frame as frame_cleaned, rearm as frame_rearmed};
 ghost use Rattle.og_home.specs.Kept.{home_of};
 ghost use Rattle.og_home.specs.Start.{start_home, first_line};
 
-use og_base::{ActorId, Block, Frame, NoMemory, NodeId, PAGE_BLOCKS, Settings};
+use og_base::{ActorId, Block, Frame, Hot, NoMemory, NodeId, PAGE_BLOCKS, Settings};
 use og_counters::Counters;
 use og_directory::{Entry, State, home_step};
 use og_flat::machine::start_line;
@@ -95,11 +95,10 @@ impl Home {
         match msg.kind {
             Kind::CleanFrame { frame } => self.clean_frame(frame, out),
             Kind::Rearm { frame } => self.rearm(frame),
-            _ => {
-                if let Some(block) = msg.kind.block() {
-                    self.serve_block(block, msg, out);
-                }
-            }
+            _ => match msg.kind.block() {
+                Some(block) => self.serve_block(block, msg, out),
+                None => {}
+            },
         }
     }
 
@@ -107,8 +106,7 @@ impl Home {
     /// that sends this kind, its block or frame is one of this home, and the table has its row. For
     /// `CleanFrame` that says that the frame's blocks are all poisoned.
     pub fn has_row(&self, msg: &Msg) -> bool
-        ensures row { IsTrue result ↔ HasRow (home_of self.now) msg.now }
-        ensures few { (home_of self.now).rules.nodes ≤ 128 }
+        ensures { IsTrue result ↔ HasRow (home_of self.now) msg.now }
     {
         match msg.kind {
             Kind::CleanFrame { frame } => self.is_to_be_cleaned(frame, msg),
@@ -118,6 +116,14 @@ impl Home {
                 None => false,
             },
         }
+    }
+
+    /// The mover's number, which is the number of nodes.
+    pub fn mover(&self) -> ActorId
+        ensures value { result ≡ (home_of self.now).rules.nodes }
+        ensures few { result ≤ 128 }
+    {
+        self.counters.rules().nodes
     }
 
     /// The entry of a block, by the index of its frame and its number there.
@@ -187,12 +193,8 @@ impl Home {
         ensures letters { out.new ≡ out.old ++ (request_counted (home_of self.old) block node).letters }
     {
         let mover = self.counters.rules().nodes;
-        if let Some(hot) = self.counters.count(block.frame.index, node) {
-            out.add(Letter {
-                to: mover,
-                kind: Kind::Hot(hot),
-            });
-        }
+        let hot = self.counters.count(block.frame.index, node);
+        notify(mover, hot, out);
     }
 
     /// Makes all blocks of a frame unowned, resets its counters, and tells the mover.
@@ -264,6 +266,20 @@ impl Home {
         }
         is_from_its_sender(msg, self.counters.rules().nodes)
             && self.entry(block.frame.index, block.number).has_row(msg)
+    }
+}
+
+/// Sends the mover a notice, if there is one.
+fn notify(mover: ActorId, hot: Option<Hot>, out: &mut Outbox)
+    requires { length out.old < 132 }
+    ensures { out.new ≡ out.old ++ notice_letters mover hot }
+{
+    match hot {
+        Some(hot) => out.add(Letter {
+            to: mover,
+            kind: Kind::Hot(hot),
+        }),
+        None => {}
     }
 }
 

@@ -1,5 +1,5 @@
 use super::*;
-use og_base::{Hot, VPage};
+use og_base::VPage;
 use og_elf::read_raw;
 use og_runs::{MsgId, Stamp};
 use std::test::Fail;
@@ -78,6 +78,7 @@ fn served(alloc: Global, home: &mut Home, msg: &Msg) -> Result<String, Fail> {
         return Ok(text);
     }
     let mut out = Outbox::empty();
+    let _mover = home.mover();
     home.serve(msg, &mut out);
     for letter in out.letters() {
         write!(text, "{}", name(&letter.kind))?;
@@ -176,6 +177,7 @@ fn a_home_at_the_start(rt: HostRuntime) -> Result<(), Fail> {
         let reply = message(2, Kind::CopyIn { block, line: Line::zero() });
         assert!(rt; home.has_row(&reply));
         let mut out = Outbox::empty();
+        let _mover = home.mover();
         let read = message(0, Kind::Read { block });
         if home.has_row(&read) {
             home.serve(&read, &mut out);
