@@ -1,0 +1,4 @@
+pub mod Sums
+pub mod Changes
+pub mod Found
+pub mod Steps

@@ -1,0 +1,51 @@
+use Rattle.std.proofs.Common.{◌≡◌, ◌++◌, ◌<◌, Option, length, ap, subst, sym, refl, ◌∙◌}
+use Rattle.std.specs.Prelude.{IsSome, IfSome}
+use Rattle.og_directory.specs.Table.{Row, row_of, is_counted, NamesNodes}
+use Rattle.og_home.specs.Home.{serve_row, table_row}
+use Rattle.og_home.specs.Kept.{IsHome, home_of}
+use Rattle.og_home.proofs.Blocks.{home_written, kept-written}
+use Rattle.og_home.proofs.Rows.{found_row, found_named, room_entry, room_line, nodes_now, row_home, row_letters, row_counts}
+use Rattle.og_home.proofs.Home.serve_row.Goals as goal
+
+pub home_step-requires-clause-row : goal.home_step-requires-clause-row
+home_step-requires-clause-row c =
+    subst (λ (o : Option Row). IsSome o) (sym (found_row c.self.view_is (subst IsHome c.self.view_is c.self.invariant) c.args.block.frame.index c.args.block.number c.place-place.result c.rules.result.now.nodes c.index_mut.result.now c.index_mut-2.result.now c.place-place.ensures c.requires.row.number c.requires.row.frame.inside (ap (λ r. r.nodes) c.rules.ensures.rules) c.index_mut.ensures.value c.args.msg.now c.index_mut-2.ensures.value)) c.requires.row.row
+
+pub home_step-requires-clause-named : goal.home_step-requires-clause-named
+home_step-requires-clause-named c = found_named c.self.view_is (subst IsHome c.self.view_is c.self.invariant) c.args.block.frame.index c.args.block.number c.place-place.result c.rules.result.now.nodes c.index_mut.result.now c.index_mut-2.result.now c.place-place.ensures c.requires.row.number c.requires.row.frame.inside (ap (λ r. r.nodes) c.rules.ensures.rules) c.index_mut.ensures.value
+
+row_is : (c : goal.After-self-2-1) → row_of c.rules.result.now.nodes c.index_mut-2.result.now c.args.msg.now c.index_mut.result.now ≡ table_row (home_of c.args.self.now) c.args.block c.args.msg.now
+row_is c = found_row c.self.view_is (subst IsHome c.self.view_is c.self.invariant) c.args.block.frame.index c.args.block.number c.place-place.result c.rules.result.now.nodes c.index_mut.result.now c.index_mut-2.result.now c.place-place.ensures c.requires.row.number c.requires.row.frame.inside (ap (λ r. r.nodes) c.rules.ensures.rules) c.index_mut.ensures.value c.args.msg.now c.index_mut-2.ensures.value
+
+inside : (c : goal.After-self-2-1) → c.place-place.result < length c.args.self.now.entries
+inside c = room_entry c.self.view_is (subst IsHome c.self.view_is c.self.invariant) c.args.block.frame.index c.args.block.number c.place-place.result c.rules.result.now.nodes c.index_mut.result.now c.index_mut-2.result.now c.place-place.ensures c.requires.row.number c.requires.row.frame.inside (ap (λ r. r.nodes) c.rules.ensures.rules) c.index_mut.ensures.value
+
+also_inside : (c : goal.After-self-2-1) → c.place-place.result < length c.args.self.now.lines
+also_inside c = room_line c.self.view_is (subst IsHome c.self.view_is c.self.invariant) c.args.block.frame.index c.args.block.number c.place-place.result c.rules.result.now.nodes c.index_mut.result.now c.index_mut-2.result.now c.place-place.ensures c.requires.row.number c.requires.row.frame.inside (ap (λ r. r.nodes) c.rules.ensures.rules) c.index_mut.ensures.value
+
+pub invariant_of-self : goal.invariant_of-self
+invariant_of-self c =
+    kept-written c.self.view_is (subst IsHome c.self.view_is c.self.invariant) _ c.args.block.frame.index c.args.block.number c.place-place.result c.place-place.result c.home_step.new.entry c.home_step.new.line
+    refl refl refl c.place-place.ensures c.requires.row.number (inside c)
+    (subst (λ n. NamesNodes n c.home_step.new.entry) (nodes_now c.self.view_is (subst IsHome c.self.view_is c.self.invariant) c.args.block.frame.index c.args.block.number c.place-place.result c.rules.result.now.nodes c.index_mut.result.now c.index_mut-2.result.now c.place-place.ensures c.requires.row.number c.requires.row.frame.inside (ap (λ r. r.nodes) c.rules.ensures.rules) c.index_mut.ensures.value) c.home_step.ensures.named)
+
+pub returns-clause-home : goal.returns-clause-home
+unfolding serve_row
+returns-clause-home c =
+    home_written c.self.view_is _ c.args.block.frame.index c.args.block.number c.place-place.result c.place-place.result c.home_step.new.entry c.home_step.new.line
+    refl refl refl c.place-place.ensures c.place-place.ensures c.requires.row.number (inside c) (also_inside c)
+    ∙ row_home (home_of c.args.self.now) c.args.block (table_row (home_of c.args.self.now) c.args.block c.args.msg.now) c.home_step.new.entry c.home_step.new.line c.requires.row.row
+    (subst (λ (o : Option Row). IfSome o (λ r. c.home_step.new.entry ≡ r.entry)) (row_is c) c.home_step.ensures.entry)
+    (subst (λ (o : Option Row). IfSome o (λ r. c.home_step.new.line ≡ r.line)) (row_is c) c.home_step.ensures.line)
+
+pub returns-clause-letters : goal.returns-clause-letters
+unfolding serve_row
+returns-clause-letters c =
+    row_letters (home_of c.args.self.now) c.args.block (table_row (home_of c.args.self.now) c.args.block c.args.msg.now) c.args.out.now c.home_step.new.out c.requires.row.row
+    (subst (λ (o : Option Row). IfSome o (λ r. c.home_step.new.out ≡ c.args.out.now ++ r.letters)) (row_is c) c.home_step.ensures.letters)
+
+pub returns-clause-counts : goal.returns-clause-counts
+unfolding serve_row
+returns-clause-counts c =
+    row_counts (home_of c.args.self.now) c.args.block (table_row (home_of c.args.self.now) c.args.block c.args.msg.now) c.args.msg.now.kind c.home_step.result c.requires.row.row
+    (subst (λ (o : Option Row). IfSome o (λ r. c.home_step.result ≡ is_counted c.args.msg.now.kind r.letters)) (row_is c) c.home_step.ensures.counts)
