@@ -53,7 +53,7 @@ module _ (layout : LayoutState) (frames : ℕ) (some : 1 ≤ layout.nodes) (few 
   -- a role at the start: that of a frame, or past the end
   at_start : (k : ℕ) (r : Role) → get_or (map (first_role layout.nodes frames (length layout.pages)) (below (layout.nodes * frames))) k Free ≡ r → ((k < layout.nodes * frames) × (first_role layout.nodes frames (length layout.pages) k ≡ r)) ⊎ (Free ≡ r)
   at_start k r e = elim (cases_lt k (layout.nodes * frames)) [
-    inl inside ↦ inl (inside, sym (mapped_at (first_role layout.nodes frames (length layout.pages)) (layout.nodes * frames) k Free inside) ∙ e)
+    | inl inside ↦ inl (inside, sym (mapped_at (first_role layout.nodes frames (length layout.pages)) (layout.nodes * frames) k Free inside) ∙ e)
     | inr past ↦ inr (sym (get_or_past (map (first_role layout.nodes frames (length layout.pages)) (below (layout.nodes * frames))) k Free (rw (mapped_length (first_role layout.nodes frames (length layout.pages)) (layout.nodes * frames)) past)) ∙ e)
   ]
 

@@ -207,11 +207,12 @@ module _ (t : PageTable) (is : IsPageTable t) where
           subst (λ (f : Frame). IsFrame t f × (get_or (set once_left b (Mapped m.number)) (frame_number t f) Free ≡ Mapped n)) (sym (ap (λ j. get_or (set t.table m.number m.new) j no_frame) same ∙ get_or-set_same t.table m.number m.new no_frame in_table))
           (inside, get_or-set_same once_left b (Mapped m.number) Free new_inside ∙ ap Mapped (sym same))
       framed_after n lt (inr other) =
-          subst (λ (f : Frame). IsFrame t f × (get_or (set once_left b (Mapped m.number)) (frame_number t f) Free ≡ Mapped n)) (sym (get_or-set_other t.table m.number n m.new no_frame other))
-          ((is.roled.framed n lt).0,
-          is_elsewhere once_left b (Mapped m.number) new_inside (frame_number t (frame_in t n)) (Mapped n) (Target m.number) here_new_left
-          (is_elsewhere t.roles o (Quarantined t.published) old_inside (frame_number t (frame_in t n)) (Mapped n) (Mapped m.number) here_old (is.roled.framed n lt).1 (λ same. other (same_mapped same)))
-          mapped_target)
+          subst (λ (f : Frame). IsFrame t f × (get_or (set once_left b (Mapped m.number)) (frame_number t f) Free ≡ Mapped n)) (sym (get_or-set_other t.table m.number n m.new no_frame other)) (
+            (is.roled.framed n lt).0,
+            is_elsewhere once_left b (Mapped m.number) new_inside (frame_number t (frame_in t n)) (Mapped n) (Target m.number) here_new_left
+                (is_elsewhere t.roles o (Quarantined t.published) old_inside (frame_number t (frame_in t n)) (Mapped n) (Mapped m.number) here_old (is.roled.framed n lt).1 (λ same. other (same_mapped same)))
+                mapped_target,
+          )
 
       mapped_after : (k n : ℕ) → ((k ≡ b) × (Mapped m.number ≡ Mapped n)) ⊎ (get_or once_left k Free ≡ Mapped n) → (n < length t.pages) × (frame_number t (get_or (set t.table m.number m.new) n no_frame) ≡ k)
       mapped_after k n (inl here) =

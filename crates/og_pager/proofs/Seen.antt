@@ -280,10 +280,11 @@ module _ (t : PageTable) (page : VPage) (old new : Frame) (moves : Moves t page 
 
   settle_inside : IsFrame t old × IsFrame t new × (frame_of t page ≡ Some old)
   unfolding frame_of
-  settle_inside =
-      (subst (λ (f : Frame). IsFrame t f) known.3 (moves.sound.roled.framed known.0.number low).0,
-      subst (λ (f : Frame). IsFrame t f) known.4 (moves.sound.roled.moving known.0 known.1).1,
-      ap (option_map (frame_in t)) number ∙ ap Some known.3)
+  settle_inside = (
+    subst (λ (f : Frame). IsFrame t f) known.3 (moves.sound.roled.framed known.0.number low).0,
+    subst (λ (f : Frame). IsFrame t f) known.4 (moves.sound.roled.moving known.0 known.1).1,
+    ap (option_map (frame_in t)) number ∙ ap Some known.3,
+  )
 
   by_published : {X : Type 0} (F : PageTable → X) (x : X) → F (published_move t (Some known.0)) ≡ x → F (settled t) ≡ x
   unfolding settled

@@ -10,8 +10,8 @@ use std::alloc::Global;
 use std::process::Abort;
 use std::test::Fail;
 
-const SETTINGS: Settings = Settings {
-    nodes: 1,
+const TWO_NODES: Settings = Settings {
+    nodes: 2,
     frames: 2,
     sets: 64,
     ways: 2,
@@ -23,7 +23,21 @@ const SETTINGS: Settings = Settings {
     reset: 1024,
 };
 
+const ONE_NODE: Settings = Settings {
+    nodes: 1,
+    frames: 4,
+    sets: 64,
+    ways: 2,
+    tlb: 8,
+    instructions: 1_000_000,
+    trigger: 64,
+    sharing: 32,
+    moves: 4,
+    reset: 1024,
+};
+
 const DATA: VPage = VPage(0x100);
+
 const STACK: VPage = VPage(0x70000);
 
 fn at(home: u8, index: u16) -> Frame {
@@ -107,11 +121,7 @@ fn has_free(rt: &impl Abort, pager: &Pager, node: NodeId) -> bool {
 // reclaimed once its holder has dropped it.
 #[test]
 fn a_page_moves(rt: HostRuntime) -> Result<(), Fail> {
-    let settings = Settings {
-        nodes: 2,
-        ..SETTINGS
-    };
-    let mut pager = pager(rt.alloc(), 2, &settings)?;
+    let mut pager = pager(rt.alloc(), 2, &TWO_NODES)?;
     let placed = [
         (DATA, at(0, 0)),
         (STACK, at(1, 0)),
@@ -126,13 +136,19 @@ fn a_page_moves(rt: HostRuntime) -> Result<(), Fail> {
     assert_eq!(rt; walk(&rt, &mut pager, DATA, 0), Some(at(0, 0)));
     assert_eq!(rt; begin(&rt, &mut pager, DATA, 1), at(1, 1));
     assert_eq!(rt; pager.moving(), Some((DATA, at(0, 0), at(1, 1))));
-    assert_eq!(rt; (pager.is_moving(DATA), pager.is_moving(STACK)), (true, false));
+    assert_eq!(rt;
+        (pager.is_moving(DATA), pager.is_moving(STACK)),
+        (true, false)
+    );
     assert_eq!(rt; walk(&rt, &mut pager, DATA, 1), None);
     assert_eq!(rt; seen(&rt, &pager, at(1, 1)), (None, false, 0));
     assert_eq!(rt; has_free(&rt, &pager, 1), false);
     settle(&rt, &mut pager);
     assert_eq!(rt; pager.moving(), None);
-    assert_eq!(rt; (pager.frame_of(DATA), pager.moves(DATA)), (Some(at(1, 1)), 1));
+    assert_eq!(rt;
+        (pager.frame_of(DATA), pager.moves(DATA)),
+        (Some(at(1, 1)), 1)
+    );
     assert_eq!(rt; seen(&rt, &pager, at(1, 1)), (Some(DATA), false, 0));
     assert_eq!(rt; seen(&rt, &pager, at(0, 0)), (None, true, 1));
     assert_eq!(rt; oldest(&rt, &pager, 0), Some(at(0, 0)));
@@ -149,11 +165,7 @@ fn a_page_moves(rt: HostRuntime) -> Result<(), Fail> {
 // with a lesser number was left later.
 #[test]
 fn frames_in_order(rt: HostRuntime) -> Result<(), Fail> {
-    let settings = Settings {
-        frames: 4,
-        ..SETTINGS
-    };
-    let mut pager = pager(rt.alloc(), 1, &settings)?;
+    let mut pager = pager(rt.alloc(), 1, &ONE_NODE)?;
     // (page, its new frame, the oldest frame in quarantine then)
     let moves = [(DATA, 2, 0), (STACK, 3, 0)];
     for (page, new, old) in moves {
