@@ -1,9 +1,12 @@
 -- The laws of what is seen of a page table.
-use Rattle.std.proofs.Common.{◌≡◌, ◌≢◌, ℕ, ◌+◌, ◌-◌, ◌*◌, ◌^◌, ◌<◌, ◌≤◌, ◌&&◌, Bool, true, false, cond, nat_eq, nat_cmp, Option, Some, None, List, length, map, get_or, take, drop, option_map, refl, sym, ◌∙◌, ap, ap₂, subst, arith, inl, inr, ◌⊎◌}
+use Rattle.std.proofs.Common.{◌≡◌, ◌≢◌, ℕ, zero, suc, is_some, nat_le, ◌+◌, ◌-◌, ◌*◌, ◌^◌, ◌<◌, ◌≤◌, ◌&&◌, Bool, true, false, cond, nat_eq, nat_cmp, Option, Some, None, List, length, map, get_or, take, drop, option_map, refl, sym, ◌∙◌, ap, ap₂, subst, arith, inl, inr, ◌⊎◌}
 use Rattle.std.specs.List.{list_all, position}
 use Rattle.std.specs.FinSet as sets
 use Rattle.std.proofs.Math.ListN.{set, length-set}
-use Rattle.std.proofs.lemmas.List.{get_or-set_same, get_or-set_other}
+use Rattle.std.proofs.Math.Nat.{mul-le-mul_right}
+use Rattle.std.proofs.lemmas.List.{get_or-set_same, get_or-set_other, length-take-le, length-drop}
+use Rattle.std.proofs.lemmas.List.Elements.{All-get_or}
+use Rattle.std.proofs.lemmas.List.Sums.{AllPass-from_list_all}
 use Rattle.std.proofs.lemmas.List.Quantifiers.{position-Some}
 use Rattle.std.proofs.lemmas.Bool.{cases_eq}
 use Rattle.std.proofs.lemmas.Bool.Decides.{nat_tests}
@@ -16,8 +19,11 @@ use Rattle.og_image.proofs.Pages.{pages_rise}
 use Rattle.og_pager.specs.declared.Role.{Role}
 use Rattle.og_pager.specs.declared.Role.TheVariants.{Free, Mapped, Target, Quarantined}
 use Rattle.og_pager.specs.declared.Moving.{Moving}
-use Rattle.og_pager.specs.PageTable.{PageTable, IsPageTable, IsFrame, Suits, frame_number, frame_in, role_of, roles_at, at_home, number_of, no_frame, page_by, is_free_role, is_quarantined_role, is_left_first, is_left_later, moves_in, move_in, frame_of, page_of, is_free, is_quarantined, is_moving, holders_of, moves_of, move_of, walk_of, least_free, oldest, first_table, with_holder, walked, moving_into, begun, published_move, settled, dropped, reclaimed}
-use Rattle.og_pager.specs.Laws.{LayoutSuits, FirstIsSeen, PagesAreSeen, FoundFrames, SameFrames, WalkIsSeen, DropIsSeen, Begins, BeginIsSeen, Moves, SettleIsSeen, ReclaimIsSeen}
+use Rattle.og_pager.specs.declared.Left.{Left}
+use Rattle.og_pager.specs.Oldest.{older_of}
+use Rattle.og_pager.proofs.Eldest.{IsEldest, eldest_more, eldest_found}
+use Rattle.og_pager.specs.PageTable.{PageTable, IsPageTable, IsFrame, Suits, frame_number, frame_in, role_of, roles_at, at_home, number_of, no_frame, page_by, is_free_role, is_quarantined_role, is_left_first, is_left_later, moves_in, move_in, frame_of, page_of, is_free, is_quarantined, left_by, left_at, is_moving, holders_of, moves_of, move_of, walk_of, least_free, oldest, first_table, with_holder, walked, moving_into, begun, published_move, settled, dropped, reclaimed}
+use Rattle.og_pager.specs.Laws.{LayoutSuits, FirstIsSeen, PagesAreSeen, FoundFrames, QuarantineIsSeen, SameFrames, WalkIsSeen, DropIsSeen, Begins, BeginIsSeen, Moves, SettleIsSeen, ReclaimIsSeen}
 use Rattle.og_pager.proofs.Frames.{same_number, is_elsewhere, mapped_target, target_mapped, none_some, same_some}
 use Rattle.og_pager.proofs.Kept.{number_inside, kept_reclaimed, kept_walked, kept_dropped, kept_begun, kept_settled, quarantine_move, numbered, number_low, frame_inside, role_at_home, roles_few, least_is_free}
 use Rattle.og_pager.proofs.Firsts.{first_sound, mapped_at}
@@ -57,13 +63,15 @@ and_left false b e = e
 -- ------------------------------------------------------------ holders
 
 same_holders : (t : PageTable) (s : List (sets.FinSet nat_cmp)) → SameFrames t (record t { holders = s })
-unfolding frame_of page_of is_free is_quarantined moves_of move_of least_free oldest
+unfolding frame_of page_of is_free is_quarantined left_at moves_of move_of least_free oldest
 same_holders t s = record {
   size = (refl, refl);
   frame = λ page. refl;
   page = λ frame. page_same t (record t { holders = s }) refl (role_of t frame);
   free = λ frame. refl;
   quarantined = λ frame. refl;
+  left = λ frame. refl;
+  published = refl;
   moves = λ page. moves_same t (record t { holders = s }) refl (number_of t page);
   move = move_same t (record t { holders = s }) refl refl t.moving;
   least = λ node. refl;
@@ -77,6 +85,8 @@ same_itself t = record {
   page = λ frame. refl;
   free = λ frame. refl;
   quarantined = λ frame. refl;
+  left = λ frame. refl;
+  published = refl;
   moves = λ page. refl;
   move = refl;
   least = λ node. refl;
@@ -196,6 +206,88 @@ left_page t frame e = by_role (role_of t frame) e
     by_role (Target n) e = refl
     by_role (Quarantined n) e = refl
 
+left_role : (r : Role) (move : ℕ) → left_by r ≡ Some move → r ≡ Quarantined move
+left_role Free move e = absurd (none_some e)
+left_role (Mapped n) move e = absurd (none_some e)
+left_role (Target n) move e = absurd (none_some e)
+left_role (Quarantined n) move e = ap Quarantined (same_some e)
+
+not_left_role : (r : Role) → is_quarantined_role r ≡ false → left_by r ≡ None
+not_left_role Free e = refl
+not_left_role (Mapped n) e = refl
+not_left_role (Target n) e = refl
+not_left_role (Quarantined n) e = absurd (cc)
+
+left_is_some : (r : Role) → is_quarantined_role r ≡ is_some (left_by r)
+left_is_some Free = refl
+left_is_some (Mapped n) = refl
+left_is_some (Target n) = refl
+left_is_some (Quarantined n) = refl
+
+left_quarantined : (t : PageTable) (frame : Frame) → is_quarantined t frame ≡ is_some (left_at t frame)
+unfolding is_quarantined left_at
+left_quarantined t frame = left_is_some (role_of t frame)
+
+-- what is known of one role more
+eldest_after : (roles : List Role) (n : ℕ) → (o : Option Left) × IsEldest roles n o → (o : Option Left) × IsEldest roles (suc n) o
+eldest_after roles n known = (
+  older_of known.0 n (get_or roles n Free),
+  (let e : n + 1 ≡ suc n = omega arith in subst (λ (k : ℕ). IsEldest roles k (older_of known.0 n (get_or roles n Free))) e (eldest_more roles n (get_or roles n Free) refl known.0 known.1)),
+)
+
+eldest_upto : (roles : List Role) (n : ℕ) → (o : Option Left) × IsEldest roles n o
+eldest_upto roles zero = (None, λ k lt. absurd (omega arith))
+eldest_upto roles (suc n) = eldest_after roles n (eldest_upto roles n)
+
+module _ (t : PageTable) (is : IsPageTable t) where
+  left_before : (frame : Frame) (move : ℕ) → left_at t frame ≡ Some move → move < t.published
+  unfolding left_at
+  left_before frame move e = is.roled.left (frame_number t frame) move (left_role (role_of t frame) move e)
+
+  left_once : (frame other : Frame) (move : ℕ) → IsFrame t frame → IsFrame t other → left_at t frame ≡ Some move → left_at t other ≡ Some move → frame ≡ other
+  unfolding left_at
+  left_once frame other move inside within e f =
+      same_number t frame other inside within (is.roled.once (frame_number t frame) (frame_number t other) move (left_role (role_of t frame) move e) (left_role (role_of t other) move f))
+
+  roles_all : (node : ℕ) → node < t.nodes → length (roles_at t node) ≡ t.frames
+  roles_all node inside =
+      let more : (node + 1) * t.frames ≤ t.nodes * t.frames = mul-le-mul_right t.frames (omega arith) in
+      let rest : length (drop (node * t.frames) t.roles) ≡ length t.roles - node * t.frames = length-drop (node * t.frames) t.roles in
+      length-take-le t.frames (drop (node * t.frames) t.roles) (omega (arith, more, rest, is.sized.all_roles))
+
+  left_first : (frame other : Frame) (move later : ℕ) → IsFrame t other → oldest t other.home ≡ Some frame → left_at t frame ≡ Some move → left_at t other ≡ Some later → move ≤ later
+  unfolding oldest left_at
+  left_first frame other move later within e here there = by_place (position (is_left_first (roles_at t other.home)) (roles_at t other.home)) refl e
+    where
+      by_place : (o : Option ℕ) → position (is_left_first (roles_at t other.home)) (roles_at t other.home) ≡ o → option_map (at_home other.home) o ≡ Some frame → move ≤ later
+      by_place None p e = absurd (none_some e)
+      by_place (Some i) p e =
+          let found = position-Some (is_left_first (roles_at t other.home)) (roles_at t other.home) i Free p in
+          let low : i < t.frames = omega (arith, found.0, roles_few t is other.home) in
+          let at : get_or (roles_at t other.home) i Free ≡ Quarantined move =
+          role_at_home t is other.home i low ∙ left_role (get_or t.roles (other.home * t.frames + i) Free) move (ap (λ (f : Frame). left_by (role_of t f)) (same_some e) ∙ here) in
+          let all : list_all (is_left_later (Quarantined move)) (roles_at t other.home) ≡ true = ap (is_left_first (roles_at t other.home)) (sym at) ∙ found.1 in
+          let inside : other.index < length (roles_at t other.home) = rw (roles_all other.home within.0) within.1 in
+          let later_role : get_or (roles_at t other.home) other.index Free ≡ Quarantined later = role_at_home t is other.home other.index within.1 ∙ left_role (role_of t other) later there in
+          let passes : is_left_later (Quarantined move) (get_or (roles_at t other.home) other.index Free) ≡ true =
+          All-get_or (λ x. is_left_later (Quarantined move) x ≡ true) (roles_at t other.home) other.index Free inside (AllPass-from_list_all (is_left_later (Quarantined move)) (roles_at t other.home) all) in
+          let le : nat_le move later ≡ true = ap (is_left_later (Quarantined move)) (sym later_role) ∙ passes in
+          grind (arith, nat_tests)
+
+  left_none : (other : Frame) → IsFrame t other → oldest t other.home ≡ None → left_at t other ≡ None
+  unfolding oldest left_at
+  left_none other within e =
+      by_eldest (eldest_upto (roles_at t other.home) (length (roles_at t other.home))).0 (eldest_upto (roles_at t other.home) (length (roles_at t other.home))).1
+    where
+      no_place : (o : Option ℕ) → option_map (at_home other.home) o ≡ None → o ≡ None
+      no_place None e = refl
+      no_place (Some i) e = absurd (none_some (sym e))
+
+      by_eldest : (o : Option Left) → IsEldest (roles_at t other.home) (length (roles_at t other.home)) o → left_by (role_of t other) ≡ None
+      by_eldest (Some left) it = absurd (none_some (sym (no_place _ e) ∙ eldest_found (roles_at t other.home) (Some left) it))
+      by_eldest None it =
+          ap left_by (sym (role_at_home t is other.home other.index within.1)) ∙ not_left_role (get_or (roles_at t other.home) other.index Free) (it other.index (rw (roles_all other.home within.0) within.1))
+
 -- ------------------------------------------------------------ a move begins
 
 module _ (t : PageTable) (page : VPage) (node : ℕ) (old new : Frame) (begins : Begins t page node old new) where
@@ -242,10 +334,13 @@ module _ (t : PageTable) (page : VPage) (node : ℕ) (old new : Frame) (begins :
   begin_others frame inside differ =
       by_number (λ u. is_free u frame) (is_free t frame) (λ i n f. ap is_free_role (get_or-set_other t.roles (frame_number t new) (frame_number t frame) (Target i) Free (λ same. differ (same_number t frame new inside begin_free.0 same))))
 
-  begin_quarantined : (frame : Frame) → is_quarantined (begun t page node) frame ≡ is_quarantined t frame
-  unfolding is_quarantined
-  begin_quarantined frame =
-      by_number (λ u. is_quarantined u frame) (is_quarantined t frame) (λ i n f. same_test is_quarantined_role t.roles (frame_number t new) (Target i) Free (number_inside t begins.sound new begin_free.0) begin_free.1 refl (frame_number t frame))
+  begin_left : (frame : Frame) → left_at (begun t page node) frame ≡ left_at t frame
+  unfolding left_at
+  begin_left frame =
+      by_number (λ u. left_at u frame) (left_at t frame) (λ i n f. same_test left_by t.roles (frame_number t new) (Target i) Free (number_inside t begins.sound new begin_free.0) begin_free.1 refl (frame_number t frame))
+
+  begin_published : (begun t page node).published ≡ t.published
+  begin_published = by_number (λ u. u.published) t.published (λ i n f. refl)
 
   begin_moves : (other : VPage) → moves_of (begun t page node) other ≡ moves_of t other
   unfolding moves_of
@@ -340,20 +435,23 @@ module _ (t : PageTable) (page : VPage) (old new : Frame) (moves : Moves t page 
   apart : frame_number t (frame_in t known.0.number) ≡ frame_number t known.0.new → ⊥
   apart same = mapped_target (sym here_old ∙ (ap (λ j. get_or t.roles j Free) same ∙ here_new))
 
-  settle_left : is_quarantined (settled t) old ≡ true
-  unfolding is_quarantined
+  settle_left : left_at (settled t) old ≡ Some t.published
+  unfolding left_at
   settle_left =
-      by_published (λ u. is_quarantined u old) true
-      (subst (λ (f : Frame). is_quarantined (published_move t (Some known.0)) f ≡ true) known.3
-      (ap is_quarantined_role (get_or-set_other once_left (frame_number t known.0.new) (frame_number t (frame_in t known.0.number)) (Mapped known.0.number) Free apart ∙ get_or-set_same t.roles (frame_number t (frame_in t known.0.number)) (Quarantined t.published) Free old_inside)))
+      by_published (λ u. left_at u old) (Some t.published)
+      (subst (λ (f : Frame). left_at (published_move t (Some known.0)) f ≡ Some t.published) known.3
+      (ap left_by (get_or-set_other once_left (frame_number t known.0.new) (frame_number t (frame_in t known.0.number)) (Mapped known.0.number) Free apart ∙ get_or-set_same t.roles (frame_number t (frame_in t known.0.number)) (Quarantined t.published) Free old_inside)))
 
-  settle_quarantined : (frame : Frame) → IsFrame t frame → frame ≢ old → is_quarantined (settled t) frame ≡ is_quarantined t frame
-  unfolding is_quarantined
-  settle_quarantined frame inside differ =
-      by_published (λ u. is_quarantined u frame) (is_quarantined t frame)
-      (same_test is_quarantined_role once_left (frame_number t known.0.new) (Mapped known.0.number) (Target known.0.number) new_inside here_new_left refl (frame_number t frame) ∙
-      ap is_quarantined_role (get_or-set_other t.roles (frame_number t (frame_in t known.0.number)) (frame_number t frame) (Quarantined t.published) Free
+  settle_stays : (frame : Frame) → IsFrame t frame → frame ≢ old → left_at (settled t) frame ≡ left_at t frame
+  unfolding left_at
+  settle_stays frame inside differ =
+      by_published (λ u. left_at u frame) (left_at t frame)
+      (same_test left_by once_left (frame_number t known.0.new) (Mapped known.0.number) (Target known.0.number) new_inside here_new_left refl (frame_number t frame) ∙
+      ap left_by (get_or-set_other t.roles (frame_number t (frame_in t known.0.number)) (frame_number t frame) (Quarantined t.published) Free
       (λ same. differ (same_number t frame (frame_in t known.0.number) inside (moves.sound.roled.framed known.0.number low).0 same ∙ known.3))))
+
+  settle_published : (settled t).published ≡ t.published + 1
+  settle_published = by_published (λ u. u.published) (t.published + 1) refl
 
   settle_free : (frame : Frame) → is_free (settled t) frame ≡ is_free t frame
   unfolding is_free
@@ -384,9 +482,17 @@ module _ (t : PageTable) (frame : Frame) where
   unfolding reclaimed is_free
   reclaim_free other is inside within differ = ap is_free_role (reclaim_role other is inside within differ)
 
-  reclaim_quarantined : (other : Frame) → IsPageTable t → IsFrame t frame → IsFrame t other → other ≢ frame → is_quarantined (reclaimed t frame) other ≡ is_quarantined t other
-  unfolding reclaimed is_quarantined
-  reclaim_quarantined other is inside within differ = ap is_quarantined_role (reclaim_role other is inside within differ)
+  reclaim_gone : IsPageTable t → IsFrame t frame → left_at (reclaimed t frame) frame ≡ None
+  unfolding reclaimed left_at
+  reclaim_gone is inside = ap left_by (get_or-set_same t.roles (frame_number t frame) Free Free (number_inside t is frame inside))
+
+  reclaim_left : (other : Frame) → IsPageTable t → IsFrame t frame → IsFrame t other → other ≢ frame → left_at (reclaimed t frame) other ≡ left_at t other
+  unfolding reclaimed left_at
+  reclaim_left other is inside within differ = ap left_by (reclaim_role other is inside within differ)
+
+  reclaim_published : (reclaimed t frame).published ≡ t.published
+  unfolding reclaimed
+  reclaim_published = refl
 
   reclaim_size : ((reclaimed t frame).nodes ≡ t.nodes) × ((reclaimed t frame).frames ≡ t.frames)
   unfolding reclaimed
@@ -454,6 +560,15 @@ found_laws = record {
   oldest = λ t node frame is inside e. oldest_is t is node frame inside e;
 }
 
+pub quarantine_laws : QuarantineIsSeen
+quarantine_laws = record {
+  quarantined = left_quarantined;
+  before = λ t frame move is e. left_before t is frame move e;
+  once = λ t frame other move is inside within e f. left_once t is frame other move inside within e f;
+  first = λ t frame other move later is within e here there. left_first t is frame other move later within e here there;
+  none = λ t other is within e. left_none t is other within e;
+}
+
 pub walk_laws : WalkIsSeen
 walk_laws = record {
   frames = walk_frames;
@@ -482,7 +597,8 @@ begin_laws = record {
   page = λ t page node old new frame b. begin_page t page node old new b frame;
   taken = λ t page node old new b. begin_taken t page node old new b;
   free = λ t page node old new frame b inside differ. begin_others t page node old new b frame inside differ;
-  quarantined = λ t page node old new frame b. begin_quarantined t page node old new b frame;
+  left = λ t page node old new frame b. begin_left t page node old new b frame;
+  published = λ t page node old new b. begin_published t page node old new b;
   moves = λ t page other node old new b. begin_moves t page node old new b other;
   holders = λ t page node old new frame b. begin_holders t page node old new b frame;
   sound = λ t page node old new b. begin_sound t page node old new b;
@@ -497,7 +613,8 @@ settle_laws = record {
   others = λ t page other old new m differ. settle_others t page old new m other differ;
   counted = λ t page old new m. settle_counted t page old new m;
   left = λ t page old new m. settle_left t page old new m;
-  quarantined = λ t page old new frame m inside differ. settle_quarantined t page old new m frame inside differ;
+  stays = λ t page old new frame m inside differ. settle_stays t page old new m frame inside differ;
+  published = λ t page old new m. settle_published t page old new m;
   free = λ t page old new frame m. settle_free t page old new m frame;
   holders = λ t page old new frame m. settle_holders t page old new m frame;
   sound = λ t page old new m few. settle_sound t page old new m few;
@@ -508,7 +625,9 @@ reclaim_laws = record {
   size = λ t frame. reclaim_size t frame;
   own = λ t frame is inside. reclaim_own t frame is inside;
   free = λ t frame other is inside within differ. reclaim_free t frame other is inside within differ;
-  quarantined = λ t frame other is inside within differ. reclaim_quarantined t frame other is inside within differ;
+  gone = λ t frame is inside. reclaim_gone t frame is inside;
+  left = λ t frame other is inside within differ. reclaim_left t frame other is inside within differ;
+  published = λ t frame. reclaim_published t frame;
   frame = λ t frame page. reclaim_frame t frame page;
   page = λ t frame other is inside left. reclaim_page t frame other is inside left;
   moves = λ t frame page. reclaim_moves t frame page;

@@ -1,12 +1,12 @@
 -- What the look-ups answer of every page table, and after each call that changes one: for the page, the frame and the node of
 -- the call, and for every other.
-use Rattle.std.specs.Prelude.{◌≡◌, ◌≢◌, ℕ, ◌+◌, ◌-◌, ◌*◌, ◌^◌, ◌<◌, ◌≤◌, true, false, Some, None, length}
+use Rattle.std.specs.Prelude.{◌≡◌, ◌≢◌, ℕ, ◌+◌, ◌-◌, ◌*◌, ◌^◌, ◌<◌, ◌≤◌, true, false, Some, None, is_some, length}
 use Rattle.std.specs.FinSet as set
 use Rattle.og_base.specs.declared.Frame.{Frame}
 use Rattle.og_base.specs.declared.VPage.{VPage}
 use Rattle.og_image.specs.Image.{ImageState}
 use Rattle.og_image.specs.Layout.{LayoutState, layout_of, pages_of, first_frame}
-use Rattle.og_pager.specs.PageTable.{PageTable, IsPageTable, IsFrame, Suits, frame_of, page_of, is_free, is_quarantined, holders_of, moves_of, move_of, walk_of, least_free, oldest, first_table, walked, begun, settled, dropped, reclaimed}
+use Rattle.og_pager.specs.PageTable.{PageTable, IsPageTable, IsFrame, Suits, frame_of, page_of, is_free, is_quarantined, left_at, holders_of, moves_of, move_of, walk_of, least_free, oldest, first_table, walked, begun, settled, dropped, reclaimed}
 
 -- what a layout gives: of a machine with enough frames it suits the settings
 pub record LayoutSuits : Type 0 where
@@ -32,6 +32,15 @@ pub record FoundFrames : Type 0 where
   pub least : (t : PageTable) (node : ℕ) (frame : Frame) → IsPageTable t → node < t.nodes → least_free t node ≡ Some frame → IsFrame t frame × (is_free t frame ≡ true) × (frame.home ≡ node)
   pub oldest : (t : PageTable) (node : ℕ) (frame : Frame) → IsPageTable t → node < t.nodes → oldest t node ≡ Some frame → IsFrame t frame × (is_quarantined t frame ≡ true) × (frame.home ≡ node)
 
+-- a frame in quarantine was left in a move before now, and no two in one move. The oldest one of a node was left first, and where
+-- there is none the node has none in quarantine
+pub record QuarantineIsSeen : Type 0 where
+  pub quarantined : (t : PageTable) (frame : Frame) → is_quarantined t frame ≡ is_some (left_at t frame)
+  pub before : (t : PageTable) (frame : Frame) (move : ℕ) → IsPageTable t → left_at t frame ≡ Some move → move < t.published
+  pub once : (t : PageTable) (frame other : Frame) (move : ℕ) → IsPageTable t → IsFrame t frame → IsFrame t other → left_at t frame ≡ Some move → left_at t other ≡ Some move → frame ≡ other
+  pub first : (t : PageTable) (frame other : Frame) (move later : ℕ) → IsPageTable t → IsFrame t other → oldest t other.home ≡ Some frame → left_at t frame ≡ Some move → left_at t other ≡ Some later → move ≤ later
+  pub none : (t : PageTable) (other : Frame) → IsPageTable t → IsFrame t other → oldest t other.home ≡ None → left_at t other ≡ None
+
 -- two page tables that differ at most in who holds the frames
 pub record SameFrames (t u : PageTable) : Type 0 where
   pub size : (u.nodes ≡ t.nodes) × (u.frames ≡ t.frames)
@@ -39,6 +48,8 @@ pub record SameFrames (t u : PageTable) : Type 0 where
   pub page : (frame : Frame) → page_of u frame ≡ page_of t frame
   pub free : (frame : Frame) → is_free u frame ≡ is_free t frame
   pub quarantined : (frame : Frame) → is_quarantined u frame ≡ is_quarantined t frame
+  pub left : (frame : Frame) → left_at u frame ≡ left_at t frame
+  pub published : u.published ≡ t.published
   pub moves : (page : VPage) → moves_of u page ≡ moves_of t page
   pub move : move_of u ≡ move_of t
   pub least : (node : ℕ) → least_free u node ≡ least_free t node
@@ -74,7 +85,8 @@ pub record BeginIsSeen : Type 0 where
   pub page : (t : PageTable) (page : VPage) (node : ℕ) (old new frame : Frame) → Begins t page node old new → page_of (begun t page node) frame ≡ page_of t frame
   pub taken : (t : PageTable) (page : VPage) (node : ℕ) (old new : Frame) → Begins t page node old new → is_free (begun t page node) new ≡ false
   pub free : (t : PageTable) (page : VPage) (node : ℕ) (old new frame : Frame) → Begins t page node old new → IsFrame t frame → frame ≢ new → is_free (begun t page node) frame ≡ is_free t frame
-  pub quarantined : (t : PageTable) (page : VPage) (node : ℕ) (old new frame : Frame) → Begins t page node old new → is_quarantined (begun t page node) frame ≡ is_quarantined t frame
+  pub left : (t : PageTable) (page : VPage) (node : ℕ) (old new frame : Frame) → Begins t page node old new → left_at (begun t page node) frame ≡ left_at t frame
+  pub published : (t : PageTable) (page : VPage) (node : ℕ) (old new : Frame) → Begins t page node old new → (begun t page node).published ≡ t.published
   pub moves : (t : PageTable) (page other : VPage) (node : ℕ) (old new : Frame) → Begins t page node old new → moves_of (begun t page node) other ≡ moves_of t other
   pub holders : (t : PageTable) (page : VPage) (node : ℕ) (old new frame : Frame) → Begins t page node old new → holders_of (begun t page node) frame ≡ holders_of t frame
   pub sound : (t : PageTable) (page : VPage) (node : ℕ) (old new : Frame) → Begins t page node old new → IsPageTable (begun t page node)
@@ -93,8 +105,9 @@ pub record SettleIsSeen : Type 0 where
   pub own : (t : PageTable) (page : VPage) (old new : Frame) → Moves t page old new → frame_of (settled t) page ≡ Some new
   pub others : (t : PageTable) (page other : VPage) (old new : Frame) → Moves t page old new → other ≢ page → frame_of (settled t) other ≡ frame_of t other
   pub counted : (t : PageTable) (page : VPage) (old new : Frame) → Moves t page old new → moves_of (settled t) page ≡ moves_of t page + 1
-  pub left : (t : PageTable) (page : VPage) (old new : Frame) → Moves t page old new → is_quarantined (settled t) old ≡ true
-  pub quarantined : (t : PageTable) (page : VPage) (old new frame : Frame) → Moves t page old new → IsFrame t frame → frame ≢ old → is_quarantined (settled t) frame ≡ is_quarantined t frame
+  pub left : (t : PageTable) (page : VPage) (old new : Frame) → Moves t page old new → left_at (settled t) old ≡ Some t.published
+  pub stays : (t : PageTable) (page : VPage) (old new frame : Frame) → Moves t page old new → IsFrame t frame → frame ≢ old → left_at (settled t) frame ≡ left_at t frame
+  pub published : (t : PageTable) (page : VPage) (old new : Frame) → Moves t page old new → (settled t).published ≡ t.published + 1
   pub free : (t : PageTable) (page : VPage) (old new frame : Frame) → Moves t page old new → is_free (settled t) frame ≡ is_free t frame
   pub holders : (t : PageTable) (page : VPage) (old new frame : Frame) → Moves t page old new → holders_of (settled t) frame ≡ holders_of t frame
   pub sound : (t : PageTable) (page : VPage) (old new : Frame) → Moves t page old new → moves_of t page < 2 ^ 32 - 1 → IsPageTable (settled t)
@@ -104,7 +117,9 @@ pub record ReclaimIsSeen : Type 0 where
   pub size : (t : PageTable) (frame : Frame) → ((reclaimed t frame).nodes ≡ t.nodes) × ((reclaimed t frame).frames ≡ t.frames)
   pub own : (t : PageTable) (frame : Frame) → IsPageTable t → IsFrame t frame → is_free (reclaimed t frame) frame ≡ true
   pub free : (t : PageTable) (frame other : Frame) → IsPageTable t → IsFrame t frame → IsFrame t other → other ≢ frame → is_free (reclaimed t frame) other ≡ is_free t other
-  pub quarantined : (t : PageTable) (frame other : Frame) → IsPageTable t → IsFrame t frame → IsFrame t other → other ≢ frame → is_quarantined (reclaimed t frame) other ≡ is_quarantined t other
+  pub gone : (t : PageTable) (frame : Frame) → IsPageTable t → IsFrame t frame → left_at (reclaimed t frame) frame ≡ None
+  pub left : (t : PageTable) (frame other : Frame) → IsPageTable t → IsFrame t frame → IsFrame t other → other ≢ frame → left_at (reclaimed t frame) other ≡ left_at t other
+  pub published : (t : PageTable) (frame : Frame) → (reclaimed t frame).published ≡ t.published
   pub frame : (t : PageTable) (frame : Frame) (page : VPage) → frame_of (reclaimed t frame) page ≡ frame_of t page
   pub page : (t : PageTable) (frame other : Frame) → IsPageTable t → IsFrame t frame → is_quarantined t frame ≡ true → page_of (reclaimed t frame) other ≡ page_of t other
   pub moves : (t : PageTable) (frame : Frame) (page : VPage) → moves_of (reclaimed t frame) page ≡ moves_of t page

@@ -84,6 +84,14 @@ abbrev pub is_quarantined_role : Role → Bool
 is_quarantined_role (Quarantined move) = true
 is_quarantined_role role = false
 
+abbrev pub left_by : Role → Option ℕ
+left_by (Quarantined move) = Some move
+left_by role = None
+
+-- the number of the move in which its page left a frame that is in quarantine
+unfoldable pub left_at : PageTable → Frame → Option ℕ
+left_at t frame = left_by (role_of t frame)
+
 -- no page is in the frame or on its way into it, and no page has left it since it was freed
 unfoldable pub is_free : PageTable → Frame → Bool
 is_free t frame = is_free_role (role_of t frame)

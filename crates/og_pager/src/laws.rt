@@ -3,7 +3,7 @@
 //!
 //! The layers above see a page table through these laws alone. None of them names a list.
 
-ghost use Rattle.og_pager.specs.Laws.{LayoutSuits, FirstIsSeen, PagesAreSeen, FoundFrames, WalkIsSeen, DropIsSeen, BeginIsSeen, SettleIsSeen, ReclaimIsSeen};
+ghost use Rattle.og_pager.specs.Laws.{LayoutSuits, FirstIsSeen, PagesAreSeen, FoundFrames, QuarantineIsSeen, WalkIsSeen, DropIsSeen, BeginIsSeen, SettleIsSeen, ReclaimIsSeen};
 
 /// A program's layout suits the settings of a machine with enough frames.
 pub fn layout_suits()
@@ -23,6 +23,11 @@ pub fn pages_are_seen()
 /// The free frame and the oldest one in quarantine that are found at a node are such frames of that node.
 pub fn found_frames()
     ensures { FoundFrames }
+{}
+
+/// Frames in quarantine stand in the order in which they were left, and the oldest one of a node was left first.
+pub fn quarantine_is_seen()
+    ensures { QuarantineIsSeen }
 {}
 
 /// A walk that was told a frame makes the node a holder of it, and changes nothing else.

@@ -270,7 +270,8 @@ impl Pager {
 
     /// How many nodes the machine has.
     pub fn nodes(&self) -> u8
-        ensures { result ≡ self.now.nodes }
+        ensures nodes { result ≡ self.now.nodes }
+        ensures few { self.now.nodes ≤ 128 }
     {
         self.nodes
     }
