@@ -1,0 +1,5 @@
+pub mod Eldest
+pub mod Firsts
+pub mod Frames
+pub mod Kept
+pub mod Seen
