@@ -4,3 +4,4 @@ pub mod Act
 pub mod Take
 pub mod Rows
 pub mod Sound
+pub mod Laws

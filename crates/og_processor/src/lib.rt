@@ -20,6 +20,7 @@ ghost use Rattle.rv_hart.specs.Hart.{need_of};
 ghost use Rattle.og_processor.specs.State.{letter as letter_to};
 ghost use Rattle.og_processor.specs.Access.{page_of as page_at, block_in as block_at, allows as is_allowed, stores as is_stored};
 ghost use Rattle.og_processor.specs.Act.{wanted as is_wanted, stop_note as noted_at};
+ghost use Rattle.og_processor.specs.Laws.{StaysSound};
 
 pub mod take;
 
@@ -347,3 +348,8 @@ fn is_store(access: &Access, answer: u64) -> bool
         _ => access.writes(),
     }
 }
+
+/// An act that may be made, and any take, leave an outstanding request an access's, with its block there or with room for it.
+pub fn stays_sound()
+    ensures { StaysSound }
+{}
