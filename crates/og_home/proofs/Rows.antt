@@ -184,9 +184,9 @@ pub poisoned_all : (entry : ℕ → State) (n : ℕ) → are_poisoned entry n �
 unfolding are_poisoned
 poisoned_all entry zero all number low = absurd (omega arith)
 poisoned_all entry (suc n) all number low = elim (cases_eq number n) [
-    inl same ↦ rw same (poison_is (entry n) (and_parts (are_poisoned entry n) (is_poison (entry n)) all).1)
+  | inl same ↦ rw same (poison_is (entry n) (and_parts (are_poisoned entry n) (is_poison (entry n)) all).1)
   | inr other ↦ poisoned_all entry n (and_parts (are_poisoned entry n) (is_poison (entry n)) all).0 number (omega arith)
-  ]
+]
 
 pub all_poisoned : (entry : ℕ → State) (n : ℕ) → ((number : ℕ) → number < n → entry number ≡ Poison) → are_poisoned entry n ≡ true
 unfolding are_poisoned
