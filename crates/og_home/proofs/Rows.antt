@@ -1,6 +1,7 @@
 -- What a row of the table comes to, how many letters it has, and which messages name a block.
 use Rattle.std.proofs.Common.{◌≡◌, ℕ, ◌+◌, ◌*◌, ◌<◌, ◌≤◌, Bool, true, false, cond, not, ◌&&◌, Option, None, Some, List, [], ◌∷◌, ◌++◌, length, map, inl, inr, refl, sym, ◌∙◌, ap, ap₂, subst, arith}
 use Rattle.std.specs.Prelude.{IsSome, IfSome, MatchBool, nat_eq, slice_index_or, zero, suc}
+use Rattle.std.specs.Bool.{OnTrue}
 use Rattle.std.specs.List.{list_any, filter}
 use Rattle.std.specs.Ordering.{nat_cmp}
 use Rattle.std.specs.FinSet as set
@@ -40,15 +41,6 @@ row_letters home b (Some made) old new there is = is
 pub row_counts : (home : HomeState) (b : Block) (o : Option Row) (kind : Kind) (counts : Bool) → IsSome o → IfSome o (λ r. counts ≡ is_counted kind r.letters) → counts ≡ is_counted kind (by_row home b o).letters
 row_counts home b None kind counts there is = absurd (false≢true there)
 row_counts home b (Some made) kind counts there is = is
-
-by_row_rules : (home : HomeState) (b : Block) (o : Option Row) → (by_row home b o).home.rules ≡ home.rules
-by_row_rules home b None = refl
-by_row_rules home b (Some made) = refl
-
--- a row leaves what the home counts by
-pub row_rules : (home : HomeState) (b : Block) (msg : Msg Kind) → (serve_row home b msg).home.rules ≡ home.rules
-unfolding serve_row
-row_rules home b msg = by_row_rules home b (table_row home b msg)
 
 -- ------------------------------------------------------------ what is found at a block's place
 
@@ -167,6 +159,11 @@ row_other home msg (CleanFrame f) clean rearm = absurd (clean f refl)
 row_other home msg (Rearm f) clean rearm = absurd (rearm f refl)
 row_other home msg _ clean rearm = refl
 
+-- what holds where a test does
+pub when_true : {P : Type 0} (test : Bool) → (test ≡ true → P) → OnTrue test P
+when_true true holds = holds refl
+when_true false holds = tt
+
 -- a request is a node's
 pub request_sender : (n sender : ℕ) (kind : Kind) → is_request kind ≡ true → MatchBool (is_from_mover kind) (sender ≡ n) (sender < n) → sender < n
 request_sender n sender (Read b) request from = from
@@ -184,9 +181,9 @@ pub poisoned_all : (entry : ℕ → State) (n : ℕ) → are_poisoned entry n �
 unfolding are_poisoned
 poisoned_all entry zero all number low = absurd (omega arith)
 poisoned_all entry (suc n) all number low = elim (cases_eq number n) [
-    inl same ↦ rw same (poison_is (entry n) (and_parts (are_poisoned entry n) (is_poison (entry n)) all).1)
+  | inl same ↦ rw same (poison_is (entry n) (and_parts (are_poisoned entry n) (is_poison (entry n)) all).1)
   | inr other ↦ poisoned_all entry n (and_parts (are_poisoned entry n) (is_poison (entry n)) all).0 number (omega arith)
-  ]
+]
 
 pub all_poisoned : (entry : ℕ → State) (n : ℕ) → ((number : ℕ) → number < n → entry number ≡ Poison) → are_poisoned entry n ≡ true
 unfolding are_poisoned

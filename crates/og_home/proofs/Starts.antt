@@ -32,9 +32,9 @@ module _ (counters : KeptCounts) (image : ImageState) (layout : LayoutState) (se
 
   entries_are : (j l : ℕ) → block_in kept.entries Unowned j l ≡ Unowned
   entries_are j l = elim (cases_lt l 32) [
-      inl low ↦ block_in-inside Unowned kept.entries j l low ∙ blank_entry (settings.frames * 32) (j * 32 + l)
+    | inl low ↦ block_in-inside Unowned kept.entries j l low ∙ blank_entry (settings.frames * 32) (j * 32 + l)
     | inr past ↦ block_in-past Unowned kept.entries j l past
-    ]
+  ]
 
   all_lines : length kept.lines ≡ settings.frames * 32
   all_lines = length-map (below (settings.frames * 32)) line_at ∙ below_length (settings.frames * 32)
@@ -56,12 +56,12 @@ module _ (counters : KeptCounts) (image : ImageState) (layout : LayoutState) (se
 
   lines_are : (j l : ℕ) → block_in kept.lines zero_line j l ≡ cond (nat_lt j settings.frames && nat_lt l 32) (first_line image layout node j l) zero_line
   lines_are j l = elim (cases_lt l 32) [
-      inl low ↦ (elim (cases_lt j settings.frames) [
-          inl inside ↦ line_there j l low inside ∙ sym (ap (λ test. cond test (first_line image layout node j l) zero_line) (ap (λ a. a && nat_lt l 32) (lt-ltb j settings.frames inside) ∙ lt-ltb l 32 low))
-        | inr past ↦ block_in-inside zero_line kept.lines j l low ∙ get_or_past kept.lines (j * 32 + l) zero_line (rw all_lines (omega arith)) ∙ sym (ap (λ test. cond (test && nat_lt l 32) (first_line image layout node j l) zero_line) (le-ltb j settings.frames past))
-        ])
+    | inl low ↦ (elim (cases_lt j settings.frames) [
+      | inl inside ↦ line_there j l low inside ∙ sym (ap (λ test. cond test (first_line image layout node j l) zero_line) (ap (λ a. a && nat_lt l 32) (lt-ltb j settings.frames inside) ∙ lt-ltb l 32 low))
+      | inr past ↦ block_in-inside zero_line kept.lines j l low ∙ get_or_past kept.lines (j * 32 + l) zero_line (rw all_lines (omega arith)) ∙ sym (ap (λ test. cond (test && nat_lt l 32) (first_line image layout node j l) zero_line) (le-ltb j settings.frames past))
+    ])
     | inr past ↦ block_in-past zero_line kept.lines j l past ∙ sym (ap (λ test. cond test (first_line image layout node j l) zero_line) (ap (λ b. nat_lt j settings.frames && b) (le-ltb l 32 past) ∙ never (nat_lt j settings.frames)))
-    ]
+  ]
 
   pub start-sound : settings.nodes ≤ 128 → IsHome kept
   start-sound few = record {

@@ -86,15 +86,13 @@ count_request home b p =
     served (with_counters home (count_step (counters_in home) b.frame.index p).0)
     (notice_letters home.rules.nodes (count_step (counters_in home) b.frame.index p).1)
 
--- a frame that was poisoned is clean: its blocks are unowned, its counters are reset, and the mover is told
-unfoldable pub clean_frame : HomeState → Frame → Served
-clean_frame home f =
-    served (with_counters (with_clean_frame home f.index) (reset_step (counters_in home) f.index))
-    (to home.rules.nodes (FrameClean f) ∷ [])
-
 -- the mover has judged a frame's notice: its counters are reset
 unfoldable pub rearm : HomeState → Frame → Served
 rearm home f = served (with_counters home (reset_step (counters_in home) f.index)) []
+
+-- a frame that was poisoned is clean: its blocks are unowned, its counters are reset, and the mover is told
+unfoldable pub clean_frame : HomeState → Frame → Served
+clean_frame home f = served (rearm (with_clean_frame home f.index) f).home (to home.rules.nodes (FrameClean f) ∷ [])
 
 -- ------------------------------------------------------------ events
 

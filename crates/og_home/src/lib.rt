@@ -15,9 +15,10 @@
 #![tactic(auto)]
 
 ghost use Rattle.std.specs.Prelude.{◌≡◌, ◌↔◌, ◌≤◌, ◌<◌, ◌+◌, ◌*◌, ◌/◌, ◌%◌, ◌^◌, ◌++◌, ◌&&◌, ℕ, IfOk, IsTrue, length, map, nat_le, nat_lt, slice_index_or, if◌then◌else◌};
+ghost use Rattle.std.specs.Bool.{OnTrue};
 ghost use Rattle.og_base.specs.Numbers.{below};
 ghost use Rattle.og_directory.specs.Table.{is_counted, IsFromItsSender};
-ghost use Rattle.og_home.specs.Home.{HasRow, HasBlockRow, IsOwnFrame, IsToBeCleaned, IsJudged, is_poison, are_poisoned, notice_letters, serve as served_by, serve_row as row_served, serve_block as block_served, count_request as request_counted, clean_frame as frame_cleaned, rearm as frame_rearmed};
+ghost use Rattle.og_home.specs.Home.{HasRow, HasBlockRow, IsOwnFrame, IsToBeCleaned, IsJudged, is_poison, are_poisoned, notice_letters, with_clean_frame, serve as served_by, serve_row as row_served, serve_block as block_served, count_request as request_counted, clean_frame as frame_cleaned, rearm as frame_rearmed};
 ghost use Rattle.og_home.specs.Kept.{home_of};
 ghost use Rattle.og_home.specs.Start.{start_home, first_line};
 
@@ -172,6 +173,9 @@ impl Home {
         ensures home { home_of self.new ≡ (row_served (home_of self.old) block msg.now).home }
         ensures letters { out.new ≡ out.old ++ (row_served (home_of self.old) block msg.now).letters }
         ensures counts { result ≡ is_counted msg.now.kind (row_served (home_of self.old) block msg.now).letters }
+        ensures rules { (home_of self.new).rules ≡ (home_of self.old).rules }
+        ensures node { OnTrue result (msg.now.id.sender < (home_of self.old).rules.nodes) }
+        ensures room { OnTrue result (length out.new < 132) }
     {
         let place = place(block.frame.index, block.number);
         let mover = self.counters.rules().nodes;
@@ -198,18 +202,27 @@ impl Home {
     }
 
     /// Makes all blocks of a frame unowned, resets its counters, and tells the mover.
+    #[tactic(auto, unfolding(crate::specs::Home::clean_frame))]
     fn clean_frame(&mut self, frame: Frame, out: &mut Outbox)
         requires frame { frame.index < (home_of self.old).rules.frames }
         requires room { length out.old < 132 }
         ensures home { home_of self.new ≡ (frame_cleaned (home_of self.old) frame).home }
         ensures letters { out.new ≡ out.old ++ (frame_cleaned (home_of self.old) frame).letters }
     {
+        let mover = self.mover();
+        self.clean_blocks(frame);
+        self.rearm(frame);
+        let kind = Kind::FrameClean { frame };
+        out.add(Letter { to: mover, kind });
+    }
+
+    /// Makes all blocks of a frame unowned.
+    fn clean_blocks(&mut self, frame: Frame)
+        requires { frame.index < (home_of self.old).rules.frames }
+        ensures home { home_of self.new ≡ with_clean_frame (home_of self.old) frame.index }
+        ensures rules { (home_of self.new).rules ≡ (home_of self.old).rules }
+    {
         disown(&mut self.entries, place(frame.index, 0), BLOCKS);
-        self.counters.reset(frame.index);
-        out.add(Letter {
-            to: self.counters.rules().nodes,
-            kind: Kind::FrameClean { frame },
-        });
     }
 
     /// Resets the counters of a frame.

@@ -82,8 +82,20 @@ fn served(alloc: Global, home: &mut Home, msg: &Msg) -> Result<String, Fail> {
     home.serve(msg, &mut out);
     for letter in out.letters() {
         write!(text, "{}", name(&letter.kind))?;
-        if let Kind::Hot(Hot { frame, node, count, most }) = letter.kind {
-            write!(text, " {}.{} {node} {count} {most}", frame.home, frame.index)?;
+        if let Kind::Hot(
+            Hot {
+                frame,
+                node,
+                count,
+                most,
+            },
+        ) = letter.kind
+        {
+            write!(
+                text,
+                " {}.{} {node} {count} {most}",
+                frame.home, frame.index
+            )?;
         }
         write!(text, " to {};", letter.to)?;
     }
@@ -103,15 +115,35 @@ fn requests_are_served_and_counted(rt: HostRuntime) -> Result<(), Fail> {
         (1, Kind::ReadEx { block: block(0, 1) }, hot),
         (2, Kind::Rearm { frame: FRAME }, ""),
         // The home's own count, then a request that is refused and isn't counted.
-        (0, Kind::ReadEx { block: block(0, 2) }, "ExclusiveReply to 0;"),
-        (1, Kind::Read { block: block(0, 2) }, "InterveneShared to 0;SpecReply to 1;"),
+        (
+            0,
+            Kind::ReadEx { block: block(0, 2) },
+            "ExclusiveReply to 0;",
+        ),
+        (
+            1,
+            Kind::Read { block: block(0, 2) },
+            "InterveneShared to 0;SpecReply to 1;",
+        ),
         (1, Kind::Read { block: block(0, 2) }, "Nak to 1;"),
         (1, Kind::Upgrade { block: block(0, 3) }, "Nak to 1;"),
-        (1, Kind::Read { block: block(0, 3) }, "ExclusiveReply to 1;Hot 0.0 1 2 0 to 2;"),
+        (
+            1,
+            Kind::Read { block: block(0, 3) },
+            "ExclusiveReply to 1;Hot 0.0 1 2 0 to 2;",
+        ),
         // The other frame has counts of its own.
-        (1, Kind::Read { block: block(1, 0) }, "ExclusiveReply to 1;Hot 0.1 1 1 0 to 2;"),
+        (
+            1,
+            Kind::Read { block: block(1, 0) },
+            "ExclusiveReply to 1;Hot 0.1 1 1 0 to 2;",
+        ),
         // Poison isn't counted.
-        (2, Kind::PoisonRead { block: block(1, 1) }, "PoisonReply to 2;"),
+        (
+            2,
+            Kind::PoisonRead { block: block(1, 1) },
+            "PoisonReply to 2;",
+        ),
         (1, Kind::Read { block: block(1, 1) }, "PoisonError to 1;"),
     ];
     for (sender, kind, expected) in table {
@@ -125,18 +157,54 @@ fn requests_are_served_and_counted(rt: HostRuntime) -> Result<(), Fail> {
 #[test]
 fn a_frame_is_cleaned(rt: HostRuntime) -> Result<(), Fail> {
     let mut home = home(rt.alloc())?;
-    let read = message(1, Kind::Read { block: block(0, 31) });
+    let read = message(
+        1,
+        Kind::Read {
+            block: block(0, 31),
+        },
+    );
     let clean = message(2, Kind::CleanFrame { frame: FRAME });
-    assert_eq!(rt; served(rt.alloc(), &mut home, &read)?.as_str(), "ExclusiveReply to 1;Hot 0.0 1 1 0 to 2;");
-    assert_eq!(rt; served(rt.alloc(), &mut home, &message(1, Kind::WriteBack { block: block(0, 31), line: Line::zero() }))?.as_str(), "WbAck to 1;");
+    assert_eq!(rt;
+        served(rt.alloc(), &mut home, &read)?.as_str(),
+        "ExclusiveReply to 1;Hot 0.0 1 1 0 to 2;"
+    );
+    assert_eq!(rt;
+        served(
+            rt.alloc(),
+            &mut home,
+            &message(
+                1,
+                Kind::WriteBack {
+                    block: block(0, 31),
+                    line: Line::zero()
+                }
+            )
+        )?
+        .as_str(),
+        "WbAck to 1;"
+    );
     for number in 0..32 {
         assert!(rt; !home.has_row(&clean));
-        let poison = message(2, Kind::PoisonRead { block: block(0, number) });
-        assert_eq!(rt; served(rt.alloc(), &mut home, &poison)?.as_str(), "PoisonReply to 2;");
+        let poison = message(
+            2,
+            Kind::PoisonRead {
+                block: block(0, number),
+            },
+        );
+        assert_eq!(rt;
+            served(rt.alloc(), &mut home, &poison)?.as_str(),
+            "PoisonReply to 2;"
+        );
     }
-    assert_eq!(rt; served(rt.alloc(), &mut home, &clean)?.as_str(), "FrameClean to 2;");
+    assert_eq!(rt;
+        served(rt.alloc(), &mut home, &clean)?.as_str(),
+        "FrameClean to 2;"
+    );
     assert_eq!(rt; served(rt.alloc(), &mut home, &clean)?.as_str(), "no row");
-    assert_eq!(rt; served(rt.alloc(), &mut home, &read)?.as_str(), "ExclusiveReply to 1;Hot 0.0 1 1 0 to 2;");
+    assert_eq!(rt;
+        served(rt.alloc(), &mut home, &read)?.as_str(),
+        "ExclusiveReply to 1;Hot 0.0 1 1 0 to 2;"
+    );
     Ok(())
 }
 
@@ -146,23 +214,50 @@ fn other_messages_have_no_row(rt: HostRuntime) -> Result<(), Fail> {
     let mut home = home(rt.alloc())?;
     let other = Frame { home: 1, index: 0 };
     let table = [
-        (1, Kind::Read { block: block(0, 32) }),
+        (
+            1,
+            Kind::Read {
+                block: block(0, 32),
+            },
+        ),
         (1, Kind::Read { block: block(2, 0) }),
-        (1, Kind::Read { block: Block { frame: other, number: 0 } }),
+        (
+            1,
+            Kind::Read {
+                block: Block {
+                    frame: other,
+                    number: 0,
+                },
+            },
+        ),
         (2, Kind::Read { block: block(0, 0) }),
         (3, Kind::Read { block: block(0, 0) }),
         (1, Kind::PoisonRead { block: block(0, 0) }),
-        (1, Kind::WriteBack { block: block(0, 0), line: Line::zero() }),
+        (
+            1,
+            Kind::WriteBack {
+                block: block(0, 0),
+                line: Line::zero(),
+            },
+        ),
         (1, Kind::Nak { block: block(0, 0) }),
         (2, Kind::CleanFrame { frame: FRAME }),
         (1, Kind::Rearm { frame: FRAME }),
         (2, Kind::Rearm { frame: other }),
-        (2, Kind::Rearm { frame: Frame { home: 0, index: 2 } }),
+        (
+            2,
+            Kind::Rearm {
+                frame: Frame { home: 0, index: 2 },
+            },
+        ),
         (1, Kind::Walk { page: VPage(256) }),
         (1, Kind::Dropped { frame: FRAME }),
     ];
     for (sender, kind) in table {
-        assert_eq!(rt; served(rt.alloc(), &mut home, &message(sender, kind))?.as_str(), "no row");
+        assert_eq!(rt;
+            served(rt.alloc(), &mut home, &message(sender, kind))?.as_str(),
+            "no row"
+        );
     }
     assert!(rt; home.has_row(&message(2, Kind::Rearm { frame: FRAME })));
     Ok(())
@@ -174,7 +269,13 @@ fn a_home_at_the_start(rt: HostRuntime) -> Result<(), Fail> {
     let mut home = home(rt.alloc())?;
     let copies = [(block(0, 0), 7), (block(0, 1), 0), (block(1, 0), 0)];
     for (block, first) in copies {
-        let reply = message(2, Kind::CopyIn { block, line: Line::zero() });
+        let reply = message(
+            2,
+            Kind::CopyIn {
+                block,
+                line: Line::zero(),
+            },
+        );
         assert!(rt; home.has_row(&reply));
         let mut out = Outbox::empty();
         let _mover = home.mover();
@@ -182,7 +283,11 @@ fn a_home_at_the_start(rt: HostRuntime) -> Result<(), Fail> {
         if home.has_row(&read) {
             home.serve(&read, &mut out);
         }
-        let line = out.letters().first().and_then(|letter| letter.kind.line()).ok_or("no line")?;
+        let line = out
+            .letters()
+            .first()
+            .and_then(|letter| letter.kind.line())
+            .ok_or("no line")?;
         assert_eq!(rt; (line.load(0, 1), line.stores), (first, 0));
     }
     Ok(())

@@ -1,10 +1,12 @@
-use Rattle.std.proofs.Common.{◌≡◌, ◌++◌, ◌<◌, Option, length, ap, subst, sym, refl, ◌∙◌}
+use Rattle.std.proofs.Common.{◌≡◌, ◌++◌, ◌+◌, ◌<◌, ◌≤◌, Bool, true, false, Option, length, arith, ap, subst, sym, refl, ◌∙◌}
 use Rattle.std.specs.Prelude.{IsSome, IfSome}
+use Rattle.std.specs.Bool.{OnTrue}
+use Rattle.std.proofs.lemmas.List.{length-append}
 use Rattle.og_directory.specs.Table.{Row, row_of, is_counted, NamesNodes}
 use Rattle.og_home.specs.Home.{serve_row, table_row}
 use Rattle.og_home.specs.Kept.{IsHome, home_of}
 use Rattle.og_home.proofs.Blocks.{home_written, kept-written}
-use Rattle.og_home.proofs.Rows.{found_row, found_named, room_entry, room_line, nodes_now, row_home, row_letters, row_counts}
+use Rattle.og_home.proofs.Rows.{found_row, found_named, room_entry, room_line, nodes_now, row_home, row_letters, row_counts, few_letters, counted_kind, request_sender, when_true}
 use Rattle.og_home.proofs.Home.serve_row.Goals as goal
 
 pub home_step-requires-clause-row : goal.home_step-requires-clause-row
@@ -49,3 +51,20 @@ unfolding serve_row
 returns-clause-counts c =
     row_counts (home_of c.args.self.now) c.args.block (table_row (home_of c.args.self.now) c.args.block c.args.msg.now) c.args.msg.now.kind c.home_step.result c.requires.row.row
     (subst (λ (o : Option Row). IfSome o (λ r. c.home_step.result ≡ is_counted c.args.msg.now.kind r.letters)) (row_is c) c.home_step.ensures.counts)
+
+pub returns-clause-rules : goal.returns-clause-rules
+returns-clause-rules c = ap (λ d. d.counters.rules) c.self.view_is
+
+pub returns-clause-node : goal.returns-clause-node
+returns-clause-node c =
+    when_true c.home_step.result (λ counts.
+    request_sender c.args.self.now.counters.rules.nodes c.args.msg.now.id.sender c.args.msg.now.kind
+    (counted_kind c.args.msg.now.kind (serve_row (home_of c.args.self.now) c.args.block c.args.msg.now).letters (sym (returns-clause-counts c) ∙ counts)) c.requires.row.sender)
+
+pub returns-clause-room : goal.returns-clause-room
+returns-clause-room c =
+    when_true c.home_step.result (λ counts.
+    let few : length (serve_row (home_of c.args.self.now) c.args.block c.args.msg.now).letters ≤ c.args.self.now.counters.rules.nodes + 2 = few_letters (home_of c.args.self.now) c.args.block c.args.msg.now (sym (returns-clause-counts c) ∙ counts) in
+    let long : length c.home_step.new.out ≡ length c.args.out.now + length (serve_row (home_of c.args.self.now) c.args.block c.args.msg.now).letters = ap length (returns-clause-letters c) ∙ length-append c.args.out.now (serve_row (home_of c.args.self.now) c.args.block c.args.msg.now).letters in
+    let room : length c.args.out.now + c.args.self.now.counters.rules.nodes + 3 ≤ 132 = c.requires.room in
+    omega arith)
