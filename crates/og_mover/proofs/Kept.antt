@@ -1,5 +1,5 @@
 -- A mover stays one: what is known of its job after each change of the page table.
-use Rattle.std.proofs.Common.{◌≡◌, ◌≢◌, ℕ, ◌+◌, ◌-◌, ◌^◌, ◌<◌, ◌≤◌, Bool, true, false, not, cond, nat_le, Option, Some, None, List, [], ◌∷◌, ◌++◌, map, refl, sym, ◌∙◌, ap, subst, arith}
+use Rattle.std.proofs.Common.{◌≡◌, ◌≢◌, ℕ, ◌+◌, ◌-◌, ◌^◌, ◌<◌, ◌≤◌, Bool, true, false, not, cond, nat_le, Option, Some, None, [], ◌∷◌, ◌++◌, map, refl, sym, ◌∙◌, ap, subst, arith}
 use Rattle.std.specs.FinSet as set
 use Rattle.std.proofs.lemmas.Bool.Decides.{nat_tests}
 use Rattle.og_base.specs.declared.Frame.{Frame}
@@ -8,12 +8,10 @@ use Rattle.og_base.specs.declared.Hot.{Hot}
 use Rattle.og_base.specs.declared.Settings.{Settings}
 use Rattle.og_base.specs.declared.Reason.{Reason}
 use Rattle.og_base.specs.declared.Reason.TheVariants.{Busy, Shared, Worn, Full}
-use Rattle.og_policy.specs.Policy.{decision}
-use Rattle.og_pager.specs.PageTable.{PageTable, IsPageTable, IsFrame, frame_of, page_of, is_moving, is_quarantined, holders_of, moves_of, move_of, walk_of, has_free, least_free, oldest, with_holder, walked, begun, settled, dropped, reclaimed}
+use Rattle.og_pager.specs.PageTable.{PageTable, IsPageTable, IsFrame, frame_of, page_of, is_moving, is_quarantined, holders_of, moves_of, move_of, walk_of, has_free, least_free, with_holder, walked, begun, settled, dropped}
 use Rattle.og_pager.specs.Laws.{SameFrames, Begins, Moves}
-use Rattle.og_pager.proofs.Seen.{page_laws, found_laws, walk_laws, drop_laws, begin_laws, settle_laws, reclaim_laws}
+use Rattle.og_pager.proofs.Seen.{page_laws, walk_laws, drop_laws, begin_laws, settle_laws}
 use Rattle.og_mover.specs.declared.Route.{Route}
-use Rattle.og_mover.specs.declared.Phase.{Phase}
 use Rattle.og_mover.specs.declared.Clearing.{Clearing}
 use Rattle.og_mover.specs.declared.Clearing.TheVariants.{Tell, Gather, Clean, Cleaning}
 use Rattle.og_mover.specs.declared.Job.{Job}
@@ -23,7 +21,7 @@ use Rattle.og_base.specs.Numbers.{below}
 use Rattle.std.specs.List.{filter}
 use Rattle.std.proofs.lemmas.List.{map-append}
 use Rattle.og_mover.specs.Table.{MoverState, is_idle_job, decided, walk_row, walk_answered, with_pages}
-use Rattle.og_mover.specs.Sound.{IsMover, IsJob, IsRoute, IsPhase, IsCleared, IsClearing, MayMove}
+use Rattle.og_mover.specs.Sound.{IsMover, IsJob, IsRoute, IsCleared, IsClearing, MayMove}
 
 none_some : {A : Type 0} {x : A} → None ≡ Some x → ⊥
 none_some e = cc

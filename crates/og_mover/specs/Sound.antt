@@ -1,5 +1,5 @@
 -- What every mover is.
-use Rattle.std.specs.Prelude.{◌≡◌, ℕ, ◌<◌, true, Some, None}
+use Rattle.std.specs.Prelude.{◌≡◌, ◌<◌, true, Some, None}
 use Rattle.std.specs.FinSet as set
 use Rattle.og_base.specs.declared.Frame.{Frame}
 use Rattle.og_base.specs.declared.Hot.{Hot}

@@ -2,7 +2,7 @@
 -- the mover afterwards, the letters in the order in which they are sent, and what is noted. An event is a row, in some cases
 -- followed by a second one, which sends and notes nothing: after parts were received a block is collected, after a refusal a
 -- reclaim begins, and after frames were told or dropped the gathering ends.
-use Rattle.std.specs.Prelude.{◌≡◌, ℕ, ◌+◌, ◌<◌, ◌≤◌, ◌^◌, ◌&&◌, Bool, true, false, not, nat_eq, nat_lt, nat_le, Option, Some, None, List, [], ◌∷◌, map, is_some, is_none, option_map, if◌then◌else◌}
+use Rattle.std.specs.Prelude.{ℕ, ◌+◌, ◌^◌, ◌&&◌, Bool, true, false, nat_eq, nat_lt, nat_le, Option, Some, None, List, [], ◌∷◌, map, is_some, is_none, option_map, if◌then◌else◌}
 use Rattle.std.specs.List.{filter}
 use Rattle.std.specs.FinSet as set
 use Rattle.og_base.specs.declared.VPage.{VPage}
