@@ -1,5 +1,5 @@
 -- The search for the frame that was left first.
-use Rattle.std.proofs.Common.{◌≡◌, ℕ, ◌+◌, ◌<◌, ◌≤◌, Bool, true, false, nat_le, ◌&&◌, Option, Some, None, List, length, get_or, refl, sym, ◌∙◌, ap, subst, arith, inl, inr, ◌⊎◌, option_map}
+use Rattle.std.proofs.Common.{◌≡◌, ℕ, ◌+◌, ◌<◌, ◌≤◌, Bool, true, false, nat_le, ◌&&◌, Option, Some, None, List, length, get_or, refl, sym, ◌∙◌, ap, arith, inl, inr, ◌⊎◌, option_map}
 use Rattle.std.specs.List.{list_all, position}
 use Rattle.std.specs.Prelude.{IfSome}
 use Rattle.std.proofs.lemmas.List.Quantifiers.{position-Some}
@@ -13,7 +13,7 @@ use Rattle.og_pager.specs.declared.Left.{Left}
 use Rattle.og_pager.specs.declared.Role.{Role}
 use Rattle.og_pager.specs.declared.Role.TheVariants.{Free, Mapped, Target, Quarantined}
 use Rattle.og_pager.specs.PageTable.{is_quarantined_role, is_left_later, is_left_first}
-use Rattle.og_pager.specs.Oldest.{is_left_before, older_of}
+use Rattle.og_pager.specs.Oldest.{older_of}
 
 -- what is known of the place that was left first among those seen
 abbrev pub IsEldest : List Role → ℕ → Option Left → Type 0

@@ -1,5 +1,5 @@
 -- The first table of a layout is one.
-use Rattle.std.proofs.Common.{◌≡◌, ℕ, zero, ◌+◌, ◌*◌, ◌/◌, ◌%◌, ◌<◌, ◌≤◌, ◌^◌, Bool, true, false, cond, nat_lt, Option, Some, None, List, length, map, get_or, replicate, refl, sym, ◌∙◌, ap, subst, arith, inl, inr, ◌⊎◌}
+use Rattle.std.proofs.Common.{◌≡◌, ℕ, ◌+◌, ◌*◌, ◌/◌, ◌%◌, ◌<◌, ◌≤◌, ◌^◌, Bool, true, false, cond, nat_lt, List, length, map, get_or, replicate, refl, sym, ◌∙◌, ap, subst, arith, inl, inr, ◌⊎◌}
 use Rattle.std.specs.List.{sum_by}
 use Rattle.std.proofs.Math.Nat.{mod-lt, mod-add-div', div-lt_iff_lt-mul}
 use Rattle.std.proofs.lemmas.List.{get_or-map, get_or_past, get_or-replicate, length-map, length-replicate}
@@ -13,8 +13,7 @@ use Rattle.og_image.specs.Layout.{LayoutState, frame_at}
 use Rattle.og_image.proofs.Pages.{below_length, below_at}
 use Rattle.og_pager.specs.declared.Role.{Role}
 use Rattle.og_pager.specs.declared.Role.TheVariants.{Free, Mapped, Target, Quarantined}
-use Rattle.og_pager.specs.declared.Moving.{Moving}
-use Rattle.og_pager.specs.PageTable.{PageTable, IsFrame, frame_number, frame_in, role_of, no_frame, first_role, first_table, Suits, IsSized, IsRoled, IsPageTable}
+use Rattle.og_pager.specs.PageTable.{no_frame, first_role, first_table, Suits, IsPageTable}
 use Rattle.og_pager.proofs.Frames.{number_below, mapped_free, same_mapped, none_some}
 
 -- the k-th of what stands for the numbers below n

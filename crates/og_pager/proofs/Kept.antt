@@ -1,5 +1,5 @@
 -- A page table stays one: after each change.
-use Rattle.std.proofs.Common.{◌≡◌, ℕ, ◌+◌, ◌-◌, ◌*◌, ◌<◌, ◌≤◌, ◌^◌, Bool, true, false, Option, Some, None, List, length, get_or, take, drop, nat_eq, option_map, refl, sym, ◌∙◌, ap, subst, arith, inl, inr, ◌⊎◌}
+use Rattle.std.proofs.Common.{◌≡◌, ℕ, ◌+◌, ◌-◌, ◌*◌, ◌<◌, ◌≤◌, ◌^◌, true, Option, Some, None, List, length, get_or, drop, nat_eq, option_map, refl, sym, ◌∙◌, ap, subst, arith, inl, inr, ◌⊎◌}
 use Rattle.std.proofs.Math.ListN.{set, length-set}
 use Rattle.std.specs.List.{sum_by, position}
 use Rattle.std.proofs.Math.Nat.{mul-le-mul}
@@ -17,7 +17,7 @@ use Rattle.og_image.proofs.Pages.{number_of as place_in_rising}
 use Rattle.og_pager.specs.declared.Role.{Role}
 use Rattle.og_pager.specs.declared.Role.TheVariants.{Free, Mapped, Target, Quarantined}
 use Rattle.og_pager.specs.declared.Moving.{Moving}
-use Rattle.og_pager.specs.PageTable.{PageTable, IsFrame, frame_number, frame_in, role_of, roles_at, at_home, is_free_role, is_quarantined, is_quarantined_role, no_frame, number_of, frame_of, holders_of, move_in, move_of, moves_in, moves_of, walk_of, least_free, with_holder, walked, moving_into, begun, published_move, settled, dropped, reclaimed, IsSized, IsRoled, IsPageTable}
+use Rattle.og_pager.specs.PageTable.{PageTable, IsFrame, frame_number, frame_in, role_of, roles_at, at_home, is_free_role, is_quarantined, is_quarantined_role, no_frame, number_of, frame_of, holders_of, move_in, move_of, moves_in, moves_of, walk_of, least_free, with_holder, walked, moving_into, begun, published_move, settled, dropped, reclaimed, IsPageTable}
 use Rattle.og_pager.proofs.Frames.{number_below, is_elsewhere, was_elsewhere, is_here, mapped_free, target_free, left_free, mapped_target, target_mapped, mapped_left, left_mapped, target_left, left_target, same_mapped, same_target, same_left, none_some, same_some}
 
 pub same_table : (a b : PageTable) → a ≡ b → IsPageTable b → IsPageTable a

@@ -1,5 +1,5 @@
 -- The laws of what is seen of a page table.
-use Rattle.std.proofs.Common.{◌≡◌, ◌≢◌, ℕ, zero, suc, is_some, nat_le, ◌+◌, ◌-◌, ◌*◌, ◌^◌, ◌<◌, ◌≤◌, ◌&&◌, Bool, true, false, cond, nat_eq, nat_cmp, Option, Some, None, List, length, map, get_or, take, drop, option_map, refl, sym, ◌∙◌, ap, ap₂, subst, arith, inl, inr, ◌⊎◌}
+use Rattle.std.proofs.Common.{◌≡◌, ◌≢◌, ℕ, zero, suc, is_some, nat_le, ◌+◌, ◌-◌, ◌*◌, ◌^◌, ◌<◌, ◌≤◌, ◌&&◌, Bool, true, false, cond, nat_eq, nat_cmp, Option, Some, None, List, length, map, get_or, drop, option_map, refl, sym, ◌∙◌, ap, ap₂, subst, arith, inl, inr, ◌⊎◌}
 use Rattle.std.specs.List.{list_all, position}
 use Rattle.std.specs.FinSet as sets
 use Rattle.std.proofs.Math.ListN.{set, length-set}
@@ -13,8 +13,7 @@ use Rattle.std.proofs.lemmas.Bool.Decides.{nat_tests}
 use Rattle.og_base.specs.declared.Frame.{Frame}
 use Rattle.og_base.specs.declared.VPage.{VPage}
 use Rattle.og_base.specs.Numbers.{below}
-use Rattle.og_image.specs.Image.{ImageState}
-use Rattle.og_image.specs.Layout.{LayoutState, layout_of, pages_of, frame_at, first_frame}
+use Rattle.og_image.specs.Layout.{LayoutState, frame_at, first_frame}
 use Rattle.og_image.proofs.Pages.{pages_rise}
 use Rattle.og_pager.specs.declared.Role.{Role}
 use Rattle.og_pager.specs.declared.Role.TheVariants.{Free, Mapped, Target, Quarantined}
@@ -22,7 +21,7 @@ use Rattle.og_pager.specs.declared.Moving.{Moving}
 use Rattle.og_pager.specs.declared.Left.{Left}
 use Rattle.og_pager.specs.Oldest.{older_of}
 use Rattle.og_pager.proofs.Eldest.{IsEldest, eldest_more, eldest_found}
-use Rattle.og_pager.specs.PageTable.{PageTable, IsPageTable, IsFrame, Suits, frame_number, frame_in, role_of, roles_at, at_home, number_of, no_frame, page_by, is_free_role, is_quarantined_role, is_left_first, is_left_later, moves_in, move_in, frame_of, page_of, is_free, is_quarantined, left_by, left_at, is_moving, holders_of, moves_of, move_of, walk_of, least_free, oldest, first_table, with_holder, walked, moving_into, begun, published_move, settled, dropped, reclaimed}
+use Rattle.og_pager.specs.PageTable.{PageTable, IsPageTable, IsFrame, frame_number, frame_in, role_of, roles_at, at_home, number_of, no_frame, page_by, is_free_role, is_quarantined_role, is_left_first, is_left_later, moves_in, move_in, frame_of, page_of, is_free, is_quarantined, left_by, left_at, is_moving, holders_of, moves_of, move_of, walk_of, least_free, oldest, first_table, with_holder, walked, moving_into, begun, published_move, settled, dropped, reclaimed}
 use Rattle.og_pager.specs.Laws.{LayoutSuits, FirstIsSeen, PagesAreSeen, FoundFrames, QuarantineIsSeen, SameFrames, WalkIsSeen, DropIsSeen, Begins, BeginIsSeen, Moves, SettleIsSeen, ReclaimIsSeen}
 use Rattle.og_pager.proofs.Frames.{same_number, is_elsewhere, mapped_target, target_mapped, none_some, same_some}
 use Rattle.og_pager.proofs.Kept.{number_inside, kept_reclaimed, kept_walked, kept_dropped, kept_begun, kept_settled, quarantine_move, numbered, number_low, frame_inside, role_at_home, roles_few, least_is_free}

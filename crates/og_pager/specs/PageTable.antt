@@ -1,6 +1,6 @@
 -- What contracts see of a pager: in which frame each page is, what each frame is for, who was told of a frame, and the move
 -- under way. A page is named by its number, which is its place among the placed pages.
-use Rattle.std.specs.Prelude.{◌≡◌, ◌≢◌, ℕ, ◌+◌, ◌*◌, ◌/◌, ◌%◌, ◌^◌, ◌<◌, ◌≤◌, ◌&&◌, Bool, true, false, nat_eq, nat_lt, nat_le, Option, Some, None, List, length, map, take, drop, slice_index, slice_index_or, slice_set, position, is_some, option_map, replicate, if◌then◌else◌}
+use Rattle.std.specs.Prelude.{◌≡◌, ℕ, ◌+◌, ◌*◌, ◌/◌, ◌%◌, ◌^◌, ◌<◌, ◌≤◌, ◌&&◌, Bool, true, false, nat_eq, nat_lt, nat_le, Option, Some, None, List, length, map, take, drop, slice_index, slice_index_or, slice_set, position, is_some, option_map, replicate, if◌then◌else◌}
 use Rattle.std.specs.List.{list_all, sum_by}
 use Rattle.std.specs.List.Sorted.{IsStrictlyIncreasing}
 use Rattle.std.specs.Ordering.{nat_cmp}

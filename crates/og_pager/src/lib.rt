@@ -170,7 +170,7 @@ fn oldest_place(roles: &[Role]) -> Option<usize>
 
 /// A place in quarantine, and the number of the move that left it.
 #[derive(Clone, Copy)]
-pub struct Left {
+struct Left {
     place: usize,
     moved: u64,
 }

@@ -94,7 +94,7 @@ fn seen(rt: &impl Abort, pager: &Pager, frame: Frame) -> (Option<VPage>, bool, u
     )
 }
 
-// A node's walk, and a node's oldest frame.
+// A node's walk.
 fn walk(rt: &impl Abort, pager: &mut Pager, page: VPage, node: NodeId) -> Option<Frame> {
     assert!(rt; node < pager.nodes());
     assert!(rt; pager.frame_of(page).is_some());

@@ -1,8 +1,7 @@
 use Rattle.std.proofs.Common.{◌≡◌, ℕ, length, subst, sym, ◌∙◌, arith}
-use Rattle.std.proofs.lemmas.Grind.{common_steps}
 use Rattle.og_pager.specs.declared.Role.TheVariants.{Free}
 use Rattle.og_pager.specs.PageTable.{is_left_first}
-use Rattle.og_pager.proofs.Eldest.{IsEldest, eldest_more, eldest_found, position_inside}
+use Rattle.og_pager.proofs.Eldest.{IsEldest, eldest_found, position_inside}
 use Rattle.og_pager.proofs.oldest_place.Goals as goal
 
 pub returns-clause-place : goal.returns-clause-place
