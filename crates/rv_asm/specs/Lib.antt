@@ -1,0 +1,6 @@
+pub mod Meaning
+pub mod Names
+pub mod Registers
+pub mod Seen
+pub mod Source
+pub mod Syntax
