@@ -1,1 +1,6 @@
+pub mod Assembly
+pub mod Numbers
+pub mod Places
+pub mod Ranges
+pub mod Texts
 pub mod Tokens

@@ -2,8 +2,6 @@
 -- row of its mnemonic bounds.
 use Rattle.std.specs.Prelude.{ℕ, ◌+◌, ◌*◌, ◌%◌, ◌^◌, ◌==◌, ◌&&◌, ◌||◌, nat_lt, not, Bool, true, false, cond, List, ℤ, pos, negsuc, ◌-ℤ◌, int_le, Option, None, Some, Result, Ok, Err}
 use Rattle.std.specs.Int.{w64, cast_unsigned}
-use Rattle.std.specs.Map.{lookup}
-use Rattle.std.specs.Str.{bytes_eq}
 use Rattle.rv_decode.specs.declared.Op.{Op}
 use Rattle.rv_decode.specs.declared.Instr.{Instr}
 use Rattle.rv_decode.specs.Fields.{sign_extended}
@@ -187,24 +185,28 @@ word_by (Named op ordering) rs n = encode_of (instr_of op ordering rs (immediate
 
 -- ------------------------------------------------------------------------------ labels
 
--- the bytes from an instruction to a place
+-- the bytes from the instruction at an index to a place
 abbrev pub distance : ℕ → ℕ → ℤ
 distance index place = pos (4 * place) -ℤ pos (4 * index)
 
-abbrev pub to_place : ℕ → Option Place → Result ℤ SourceCause
-to_place index None = Err cause.Label
-to_place index (Some place) = Ok (distance index place.index)
+-- a number in the range of a form
+abbrev pub within : Form → ℤ → Result ℤ SourceCause
+within form n = cond (is_in_range form n) (Ok n) (Err cause.Range)
 
--- the number of the instruction at an index
-abbrev pub number_in : List (List ℕ × Place) → ℕ → Value → Result ℤ SourceCause
-number_in labels index NoNumber = Ok (pos 0)
-number_in labels index (Written w) = Ok (value_of w)
-number_in labels index (Target name) = to_place index (lookup (bytes_eq name) labels)
+abbrev pub to_place : Form → ℕ → Option Place → Result ℤ SourceCause
+to_place form index None = Err cause.Label
+to_place form index (Some place) = within form (distance index place.index)
 
-abbrev pub ranged : Draft → Result ℤ SourceCause → Result ℕ SourceCause
-ranged d (Err c) = Err c
-ranged d (Ok n) = cond (is_in_range (form_for d.mnemonic) n) (Ok (word_by d.mnemonic d.registers n)) (Err cause.Range)
+-- the number of the instruction at an index, where labels have these places; or `Label` or `Range`
+abbrev pub number_in : (List ℕ → Option Place) → Form → ℕ → Value → Result ℤ SourceCause
+number_in places form index NoNumber = within form (pos 0)
+number_in places form index (Written w) = within form (value_of w)
+number_in places form index (Target name) = to_place form index (places name)
+
+abbrev pub worded : Draft → Result ℤ SourceCause → Result ℕ SourceCause
+worded d (Err c) = Err c
+worded d (Ok n) = Ok (word_by d.mnemonic d.registers n)
 
 -- the word of the instruction at an index; or `Label` or `Range`
-unfoldable pub word_in : List (List ℕ × Place) → ℕ → Draft → Result ℕ SourceCause
-word_in labels index d = ranged d (number_in labels index d.value)
+unfoldable pub word_in : (List ℕ → Option Place) → ℕ → Draft → Result ℕ SourceCause
+word_in places index d = worded d (number_in places (form_for d.mnemonic) index d.value)

@@ -37,3 +37,10 @@ draft_seen d = meaning.draft d.mnemonic (value_seen d.value) d.registers
 abbrev pub result_draft_seen : Result Draft SourceCause → Result meaning.Draft SourceCause
 result_draft_seen (Err c) = Err c
 result_draft_seen (Ok d) = Ok (draft_seen d)
+
+abbrev pub some_draft_seen : Option Draft → Option meaning.Draft
+some_draft_seen d = option_map draft_seen d
+
+abbrev pub option_draft_seen : Result (Option Draft) SourceCause → Result (Option meaning.Draft) SourceCause
+option_draft_seen (Err c) = Err c
+option_draft_seen (Ok d) = Ok (some_draft_seen d)

@@ -10,13 +10,14 @@ mod meaning;
 mod names;
 mod number;
 mod source;
+mod text;
 mod token;
 
 pub use form::Form;
 pub use labels::Place;
 pub use meaning::Registers;
 pub use names::{Mnemonic, Ordering};
-pub use source::{SourceCause, SourceFault};
+pub use source::{SourceCause, SourceFault, Words, assemble};
 use std::alloc::AllocError;
 
 /// Want of memory.

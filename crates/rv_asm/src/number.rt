@@ -4,6 +4,7 @@ ghost use Rattle.std.specs.Prelude.{◌≡◌, ◌≤◌, ◌<◌, ◌^◌, ◌�
 ghost use Rattle.std.specs.List.{list_all};
 ghost use Rattle.std.specs.Option.{option_or};
 ghost use Rattle.rv_asm.specs.Syntax.{is_digit, is_hex_digit, are_digits, are_hex_digits, is_hex, is_number, digit_of, digits_from, hex_value, value_of};
+ghost use Rattle.rv_asm.specs.Near.{IsNear};
 ghost use Rattle.rv_asm.specs.Registers.{register_in, special_in, numbered, numbered_in, small_number, with_letter};
 
 use crate::token::{is_digit, is_hex_digit};
@@ -62,6 +63,65 @@ pub(crate) fn is_number(word: &[u8]) -> bool
         None => false,
         Some((b'-', digits)) => are_digits(digits),
         Some(_) => are_digits(word) || is_hex(word),
+    }
+}
+
+/// What no range reaches: numbers from here on are all alike.
+pub(crate) const FAR: u64 = 1 << 40;
+
+fn digit_of(digit: u8) -> u64
+    ensures value { result ≡ digit_of digit }
+    ensures small { result < 256 }
+{
+    let value = if digit < 58 {
+        digit.saturating_sub(b'0')
+    } else if digit < 71 {
+        digit.saturating_sub(55)
+    } else {
+        digit.saturating_sub(87)
+    };
+    u64::from(value)
+}
+
+/// The number that digits write, or `FAR` where it is beyond that.
+#[tactic(auto, using(crate::proofs::Numbers::capped_digit))]
+fn digits_from(base: u64, digits: &[u8]) -> u64
+    requires some { 1 ≤ base }
+    requires small { base ≤ 16 }
+    ensures value { result ≡ min (digits_from base 0 digits.now) (2 ^ 40) }
+    ensures capped { result ≤ 2 ^ 40 }
+{
+    let mut number = 0u64;
+    for digit in digits {
+        number = (number * base + digit_of(*digit)).min(FAR);
+    }
+    number
+}
+
+/// The number after `0x`.
+fn hex_value(word: &[u8]) -> u64
+    ensures value { result ≡ min (hex_value word.now) (2 ^ 40) }
+    ensures capped { result ≤ 2 ^ 40 }
+{
+    let Some((_, rest)) = word.split_first() else {
+        return 0;
+    };
+    match rest.split_first() {
+        None => 0,
+        Some((_, digits)) => digits_from(16, digits),
+    }
+}
+
+/// The number that a word is, or one as far on its side of 0 as no range reaches.
+#[tactic(auto, unfolding(crate::specs::Syntax::value_of))]
+pub(crate) fn number_of(word: &[u8]) -> i64
+    ensures { IsNear result (value_of word.now) }
+{
+    match word.split_first() {
+        None => 0,
+        Some((b'-', digits)) => -(digits_from(10, digits) as i64),
+        Some(_) if is_hex(word) => hex_value(word) as i64,
+        Some(_) => digits_from(10, word) as i64,
     }
 }
 
