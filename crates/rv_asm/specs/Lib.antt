@@ -2,6 +2,7 @@ pub mod Found
 pub mod Meaning
 pub mod Names
 pub mod Near
+pub mod Printed
 pub mod Registers
 pub mod Seen
 pub mod Source

@@ -9,6 +9,7 @@ mod line;
 mod meaning;
 mod names;
 mod number;
+mod printer;
 mod source;
 mod text;
 mod token;
@@ -17,6 +18,7 @@ pub use form::Form;
 pub use labels::Place;
 pub use meaning::Registers;
 pub use names::{Mnemonic, Ordering};
+pub use printer::print;
 pub use source::{SourceCause, SourceFault, Words, assemble};
 use std::alloc::AllocError;
 
