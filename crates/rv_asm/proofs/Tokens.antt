@@ -44,7 +44,7 @@ after_word_at (c ∷ cs) = go (is_word_byte c) refl (after_word_at cs)
     go false is later = rw is refl
 
 -- a text that begins with a word
-word_begins : (text rest w : List ℕ) → w ≡ word_at text → 0 < length w → tokens_after text ≡ tokens_of rest → tokens_of text ≡ Word w ∷ tokens_of rest
+pub word_begins : (text rest w : List ℕ) → w ≡ word_at text → 0 < length w → tokens_after text ≡ tokens_of rest → tokens_of text ≡ Word w ∷ tokens_of rest
 unfolding tokens_of
 word_begins text rest [] e lt h = absurd (omega arith)
 word_begins text rest (c ∷ cs) e lt h = ap₂ with_word (sym e) h
