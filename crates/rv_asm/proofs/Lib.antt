@@ -1,0 +1,12 @@
+pub mod Assembly
+pub mod Decoded
+pub mod Mnemonics
+pub mod Numbers
+pub mod Places
+pub mod Prints
+pub mod Ranges
+pub mod Reading
+pub mod Statements
+pub mod Texts
+pub mod Tokens
+pub mod Written

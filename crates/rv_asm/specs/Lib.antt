@@ -1,0 +1,9 @@
+pub mod Found
+pub mod Meaning
+pub mod Names
+pub mod Near
+pub mod Printed
+pub mod Registers
+pub mod Seen
+pub mod Source
+pub mod Syntax
