@@ -1,5 +1,6 @@
 pub mod Numbers
 pub mod Ordering
 pub mod Pages
+pub mod Passes
 pub mod Places
 pub mod Placed

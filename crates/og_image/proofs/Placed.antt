@@ -1,5 +1,5 @@
 -- Each data and stack page of a loaded program is placed.
-use Rattle.std.proofs.Common.{◌≡◌, ◌≢◌, ℕ, zero, suc, ◌+◌, ◌-◌, ◌*◌, ◌/◌, ◌%◌, ◌<◌, ◌≤◌, ◌&&◌, ◌||◌, Bool, true, false, cond, length, List, [], ◌∷◌, ◌++◌, map, arith, refl, get_or, Option, Some, None, nat_eq, nat_lt, nat_le, inl, inr, ◌⊎◌, sym, subst, length-append}
+use Rattle.std.proofs.Common.{◌≡◌, ◌≢◌, ℕ, zero, suc, ◌+◌, ◌-◌, ◌/◌, ◌<◌, ◌≤◌, ◌&&◌, Bool, true, false, cond, length, List, [], ◌∷◌, ◌++◌, map, arith, refl, get_or, None, nat_eq, inl, inr, ◌⊎◌, sym, subst}
 use Rattle.std.specs.Prelude.{All}
 use Rattle.std.specs.List.{filter, position, position_or_len, list_any}
 use Rattle.std.proofs.lemmas.Bool.Decides.{nat_tests}
@@ -7,7 +7,6 @@ use Rattle.std.proofs.lemmas.Grind.{common_steps}
 use Rattle.std.proofs.lemmas.Bool.{cases_Bool}
 use Rattle.std.proofs.lemmas.List.Sums.{fails_before_first}
 use Rattle.std.proofs.lemmas.List.{map-append}
-use Rattle.og_image.proofs.Pages.{filter_below_more, map_below_more}
 use Rattle.std.proofs.lemmas.List.Elements.{filter-append}
 use Rattle.og_base.specs.Numbers.{below}
 use Rattle.og_elf.specs.declared.segment.Segment.{Segment}

@@ -52,6 +52,10 @@ read_only_of image addr width = option_map (λ s. number_at (byte_in s) addr wid
 abbrev pub touches : ℕ → Segment → Bool
 touches page s = nat_lt (page * 4096) (end_of (span_of s)) && nat_lt s.addr (page * 4096 + 4096)
 
+-- the page after the last that has a byte of the segment
+abbrev pub page_after : Segment → ℕ
+page_after s = (end_of (span_of s) - 1) / 4096 + 1
+
 -- the segment is writable and the page has a byte of it
 abbrev pub on_page : ℕ → Segment → Bool
 on_page page s = s.writable && touches page s

@@ -134,6 +134,13 @@ impl Image {
         let _ = &self.segments;
     }
 
+    /// The segments, in the order of their addresses.
+    pub(crate) fn segments(&self) -> &[Segment]
+        ensures { result.now ≡ self.now.segments }
+    {
+        self.segments.as_slice()
+    }
+
     /// The number of nodes that the program was loaded for.
     pub fn nodes(&self) -> u8
         ensures { result ≡ self.now.nodes }

@@ -1,12 +1,16 @@
 //! In which frame each page stands at the start.
 
 ghost use Rattle.std.specs.Option.{option_map};
-ghost use Rattle.std.specs.Prelude.{slice_get, IfSome, ◌^◌, ◌≡◌, ℕ, ◌+◌, ◌*◌, ◌≤◌, ◌<◌, length, OnOk, IfOk};
-ghost use Rattle.og_image.specs.Image.{ImageState};
+ghost use Rattle.std.specs.Prelude.{slice_get, IfSome, ◌^◌, ◌≡◌, ℕ, ◌+◌, ◌*◌, ◌≤◌, ◌<◌, Bool, max, length, OnOk, IfOk};
+ghost use Rattle.std.specs.List.{filter};
+ghost use Rattle.og_base.specs.Numbers.{below};
+ghost use Rattle.og_elf.specs.Segment.{IsPlaced};
+ghost use Rattle.og_image.specs.Image.{ImageState, touches, page_after};
 ghost use Rattle.og_image.specs.Layout.{layout_of, pages_of, data_pages, first_frame, frame_at};
 
 use crate::image::Image;
-use og_base::{Frame, NoMemory, Settings, VPage};
+use og_base::{Frame, NoMemory, PAGE_BYTES, Settings, VPage};
+use og_elf::Segment;
 use std::alloc::Global;
 use std::marker::Model;
 
@@ -115,17 +119,39 @@ pub fn all_pages(alloc: Global, image: &Image) -> Result<Vec<u64>, NoMemory>
     Ok(pages)
 }
 
-/// The data pages, rising.
+/// The data pages, rising. This is a pass over the segments, which are in the order of their
+/// addresses.
 fn data_pages(alloc: Global, image: &Image) -> Result<Vec<u64>, NoMemory>
     ensures { IfOk result (λ pages. pages.items ≡ data_pages image.now) }
 {
+    image.stays_loadable();
+    let segments = image.segments();
     let mut pages = Vec::new(alloc);
-    for page in 0..FIRST_STACK_PAGE {
-        if image.is_data_page(page) {
-            pages.push(page)?;
+    let mut next = 0;
+    for segment in segments {
+        if segment.writable {
+            next = push_pages(&mut pages, next, segment)?;
         }
     }
     Ok(pages)
+}
+
+/// Adds the pages from `next` on that have a byte of the segment, and answers from which page on none
+/// has. Where the pages so far are those below `next` that pass a test, which a page from there on passes
+/// just where it has a byte of the segment, they are those below the answer that pass it.
+fn push_pages(pages: &mut Vec<u64>, next: u64, segment: &Segment) -> Result<u64, NoMemory>
+    requires { IsPlaced segment.now }
+    ensures end { IfOk result (λ end. end ≡ max next (page_after segment.now)) }
+    ensures added { IfOk result (λ end. (p : ℕ → Bool) → ((k : ℕ) → next ≤ k → k < end → p k ≡ touches k segment.now) →
+        pages.old.items ≡ filter p (below next) → pages.new.items ≡ filter p (below end)) }
+{
+    let first = segment.addr / PAGE_BYTES;
+    let after = (segment.addr + segment.size - 1) / PAGE_BYTES + 1;
+    let end = next.max(after);
+    for page in next.max(first)..end {
+        pages.push(page)?;
+    }
+    Ok(end)
 }
 
 const FIRST_STACK_PAGE: u64 = 0x70000;
