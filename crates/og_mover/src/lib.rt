@@ -19,6 +19,7 @@ ghost use Rattle.og_pager.specs.PageTable.{Suits, IsNode, IsFrame, has_frame, fr
 ghost use Rattle.og_mover.specs.Table.{place_in as phase_place, is_low as has_low_numbers, is_low_line as line_is_low, with_job, in_phase, to, has_act as job_has_act, is_idle_job, is_known, when_moving, when_reclaiming, awaits_reply, awaits_ack, awaits_refusal, awaits_copy, awaits_drop, awaits_cleaning, has_ack_left};
 ghost use Rattle.og_mover.specs.Sound.{IsRoute, IsPhase, IsCleared, IsClearing, IsJob, MayMove};
 
+pub mod laws;
 #[cfg(test)]
 mod tests;
 
