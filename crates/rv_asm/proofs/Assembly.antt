@@ -1,9 +1,8 @@
 -- The words so far, line by line.
-use Rattle.std.proofs.Common.{◌≡◌, ℕ, ◌+◌, ◌-◌, ◌==◌, Bool, true, false, cond, List, [], ◌∷◌, ◌++◌, length, arith, refl, sym, ap, append_assoc, length-append, max}
+use Rattle.std.proofs.Common.{◌≡◌, ℕ, ◌+◌, ◌-◌, ◌==◌, Bool, false, cond, List, [], ◌∷◌, ◌++◌, length, arith, refl, sym, ap, append_assoc, length-append, max}
 use Rattle.std.specs.Prelude.{Option, None, Some, Result, Ok, Err}
 use Rattle.std.proofs.Math.Path.{◌∙◌, fun_ext}
 use Rattle.std.proofs.lemmas.List.{append-nil}
-use Rattle.std.proofs.lemmas.Bool.Decides.{nat_tests}
 use Rattle.rv_asm.specs.declared.source.SourceCause.{SourceCause}
 use Rattle.rv_asm.specs.declared.source.SourceCause.TheVariants as cause
 use Rattle.rv_asm.specs.declared.source.SourceFault.{SourceFault}

@@ -1,16 +1,16 @@
 -- Words that the printer writes: which bytes they have, and what is read of them.
-use Rattle.std.specs.Prelude.{decimal, codes, ℤ, pos, negsuc, ◌-ℤ◌}
+use Rattle.std.specs.Prelude.{decimal, ℤ, pos, negsuc, ◌-ℤ◌}
 use Rattle.std.specs.Fmt.{signed_decimal}
 use Rattle.std.specs.Int.Signed.{mag}
 use Rattle.std.specs.List.{list_all}
-use Rattle.std.proofs.Common.{◌≡◌, ℕ, zero, suc, ◌+◌, ◌-◌, ◌*◌, ◌/◌, ◌%◌, ◌^◌, ◌<◌, ◌≤◌, ◌==◌, ◌&&◌, ◌||◌, Bool, true, false, cond, not, nat_lt, nat_le, nat_eq, List, [], ◌∷◌, ◌++◌, length, arith, refl, sym, ap, ap₂, append_assoc, length-append, Option, None, Some, inl, inr}
+use Rattle.std.proofs.Common.{◌≡◌, ℕ, suc, ◌+◌, ◌-◌, ◌*◌, ◌/◌, ◌%◌, ◌^◌, ◌<◌, ◌≤◌, ◌==◌, ◌&&◌, ◌||◌, Bool, true, false, nat_lt, List, [], ◌∷◌, ◌++◌, length, arith, refl, sym, ap, ap₂, Some, inl, inr}
 use Rattle.std.proofs.Math.Path.{◌∙◌}
 use Rattle.std.proofs.lemmas.Bool.{cases_lt}
 use Rattle.std.proofs.lemmas.Bool.Decides.{nat_tests}
 use Rattle.std.proofs.lemmas.Int.{ints}
 use Rattle.std.proofs.lemmas.Fmt.{decimal_by_steps, decimal_digit, decimal_step, decimal_nonempty}
-use Rattle.rv_asm.specs.Syntax.{is_between, is_digit, is_letter, is_name_byte, is_mnemonic_byte, is_word_byte, is_hex, is_name, is_number, are_digits, digit_of, digits_from, value_of}
-use Rattle.rv_asm.specs.Registers.{register_in, with_letter, small_number, numbered_in, numbered}
+use Rattle.rv_asm.specs.Syntax.{is_digit, is_letter, is_name_byte, is_word_byte, is_hex, is_name, is_number, digit_of, digits_from, value_of}
+use Rattle.rv_asm.specs.Registers.{register_in, numbered_in}
 use Rattle.rv_asm.specs.Printed.{register_text}
 
 pub all_append : (p : ℕ → Bool) (xs ys : List ℕ) → list_all p xs ≡ true → list_all p ys ≡ true → list_all p (xs ++ ys) ≡ true

@@ -5,6 +5,7 @@
 
 mod form;
 mod labels;
+mod laws;
 mod line;
 mod meaning;
 mod names;
@@ -16,6 +17,7 @@ mod token;
 
 pub use form::Form;
 pub use labels::Place;
+pub use laws::printed_assembles;
 pub use meaning::Registers;
 pub use names::{Mnemonic, Ordering};
 pub use printer::print;
