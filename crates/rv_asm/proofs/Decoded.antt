@@ -33,61 +33,61 @@ signed_12 : (x : ℕ) → x < 2 ^ 12 → Between (negsuc 2047) (pos 2047) (sign_
 signed_12 x h = elim (cases_lt x (2 ^ 11)) [
   | inl lt ↦ let test : nat_lt x (2 ^ 11) ≡ true = grind (arith, nat_tests) in rw test ((grind (arith, ints), grind (arith, ints)), omega arith)
   | inr ge ↦
-    let test : nat_lt x (2 ^ 11) ≡ false = grind (arith, nat_tests) in
-    let is : pos x -ℤ pos (2 ^ 12) ≡ negsuc (2 ^ 12 - 1 - x) = grind (arith, ints) in
-    rw (test, is) ((grind (arith, ints), grind (arith, ints)), omega arith)
+      let test : nat_lt x (2 ^ 11) ≡ false = grind (arith, nat_tests) in
+      let is : pos x -ℤ pos (2 ^ 12) ≡ negsuc (2 ^ 12 - 1 - x) = grind (arith, ints) in
+      rw (test, is) ((grind (arith, ints), grind (arith, ints)), omega arith)
 ]
 
 signed_13 : (x : ℕ) → x < 2 ^ 12 → Between (negsuc 4095) (pos 4094) (sign_extended 13 (x * 2)) × (mag (sign_extended 13 (x * 2)) < 2 ^ 63) × (is_even (sign_extended 13 (x * 2)) ≡ true)
 signed_13 x h = elim (cases_lt x (2 ^ 11)) [
   | inl lt ↦
-    let test : nat_lt (x * 2) (2 ^ 12) ≡ true = grind (arith, nat_tests) in
-    let even : (x * 2 % 2 == 0) ≡ true = grind (arith, nat_tests) in
-    rw test ((grind (arith, ints), grind (arith, ints)), omega arith, even)
+      let test : nat_lt (x * 2) (2 ^ 12) ≡ true = grind (arith, nat_tests) in
+      let even : (x * 2 % 2 == 0) ≡ true = grind (arith, nat_tests) in
+      rw test ((grind (arith, ints), grind (arith, ints)), omega arith, even)
   | inr ge ↦
-    let test : nat_lt (x * 2) (2 ^ 12) ≡ false = grind (arith, nat_tests) in
-    let is : pos (x * 2) -ℤ pos (2 ^ 13) ≡ negsuc (2 ^ 13 - 1 - x * 2) = grind (arith, ints) in
-    let odd : (2 ^ 13 - 1 - x * 2) % 2 ≡ 1 = omega arith in
-    let even : ((2 ^ 13 - 1 - x * 2) % 2 == 1) ≡ true = grind (arith, nat_tests) in
-    rw (test, is) ((grind (arith, ints), grind (arith, ints)), omega arith, even)
+      let test : nat_lt (x * 2) (2 ^ 12) ≡ false = grind (arith, nat_tests) in
+      let is : pos (x * 2) -ℤ pos (2 ^ 13) ≡ negsuc (2 ^ 13 - 1 - x * 2) = grind (arith, ints) in
+      let odd : (2 ^ 13 - 1 - x * 2) % 2 ≡ 1 = omega arith in
+      let even : ((2 ^ 13 - 1 - x * 2) % 2 == 1) ≡ true = grind (arith, nat_tests) in
+      rw (test, is) ((grind (arith, ints), grind (arith, ints)), omega arith, even)
 ]
 
 signed_21 : (x : ℕ) → x < 2 ^ 20 → Between (negsuc 1048575) (pos 1048574) (sign_extended 21 (x * 2)) × (mag (sign_extended 21 (x * 2)) < 2 ^ 63) × (is_even (sign_extended 21 (x * 2)) ≡ true)
 signed_21 x h = elim (cases_lt x (2 ^ 19)) [
   | inl lt ↦
-    let test : nat_lt (x * 2) (2 ^ 20) ≡ true = grind (arith, nat_tests) in
-    let even : (x * 2 % 2 == 0) ≡ true = grind (arith, nat_tests) in
-    rw test ((grind (arith, ints), grind (arith, ints)), omega arith, even)
+      let test : nat_lt (x * 2) (2 ^ 20) ≡ true = grind (arith, nat_tests) in
+      let even : (x * 2 % 2 == 0) ≡ true = grind (arith, nat_tests) in
+      rw test ((grind (arith, ints), grind (arith, ints)), omega arith, even)
   | inr ge ↦
-    let test : nat_lt (x * 2) (2 ^ 20) ≡ false = grind (arith, nat_tests) in
-    let is : pos (x * 2) -ℤ pos (2 ^ 21) ≡ negsuc (2 ^ 21 - 1 - x * 2) = grind (arith, ints) in
-    let odd : (2 ^ 21 - 1 - x * 2) % 2 ≡ 1 = omega arith in
-    let even : ((2 ^ 21 - 1 - x * 2) % 2 == 1) ≡ true = grind (arith, nat_tests) in
-    rw (test, is) ((grind (arith, ints), grind (arith, ints)), omega arith, even)
+      let test : nat_lt (x * 2) (2 ^ 20) ≡ false = grind (arith, nat_tests) in
+      let is : pos (x * 2) -ℤ pos (2 ^ 21) ≡ negsuc (2 ^ 21 - 1 - x * 2) = grind (arith, ints) in
+      let odd : (2 ^ 21 - 1 - x * 2) % 2 ≡ 1 = omega arith in
+      let even : ((2 ^ 21 - 1 - x * 2) % 2 == 1) ≡ true = grind (arith, nat_tests) in
+      rw (test, is) ((grind (arith, ints), grind (arith, ints)), omega arith, even)
 ]
 
 -- the upper 20 bits come back
 upper_back : (y : ℕ) → y < 2 ^ 20 → (cast_unsigned w64 (sign_extended 32 (y * 2 ^ 12)) % 2 ^ 32 / 2 ^ 12 ≡ y) × (mag (sign_extended 32 (y * 2 ^ 12)) < 2 ^ 63)
 upper_back y h = elim (cases_lt y (2 ^ 19)) [
   | inl lt ↦
-    let test : nat_lt (y * 2 ^ 12) (2 ^ 31) ≡ true = grind (arith, nat_tests) in
-    rw test (omega arith, omega arith)
+      let test : nat_lt (y * 2 ^ 12) (2 ^ 31) ≡ true = grind (arith, nat_tests) in
+      rw test (omega arith, omega arith)
   | inr ge ↦
-    let test : nat_lt (y * 2 ^ 12) (2 ^ 31) ≡ false = grind (arith, nat_tests) in
-    let is : pos (y * 2 ^ 12) -ℤ pos (2 ^ 32) ≡ negsuc (2 ^ 32 - 1 - y * 2 ^ 12) = grind (arith, ints) in
-    rw (test, is) (omega arith, omega arith)
+      let test : nat_lt (y * 2 ^ 12) (2 ^ 31) ≡ false = grind (arith, nat_tests) in
+      let is : pos (y * 2 ^ 12) -ℤ pos (2 ^ 32) ≡ negsuc (2 ^ 32 - 1 - y * 2 ^ 12) = grind (arith, ints) in
+      rw (test, is) (omega arith, omega arith)
 ]
 
 -- bits 20 to 31 of a FENCE come back
 fence_back : (x : ℕ) → x < 2 ^ 12 → cast_unsigned w64 (sign_extended 12 x) % 2 ^ 32 % 2 ^ 12 ≡ x
 fence_back x h = elim (cases_lt x (2 ^ 11)) [
   | inl lt ↦
-    let test : nat_lt x (2 ^ 11) ≡ true = grind (arith, nat_tests) in
-    rw test (omega arith)
+      let test : nat_lt x (2 ^ 11) ≡ true = grind (arith, nat_tests) in
+      rw test (omega arith)
   | inr ge ↦
-    let test : nat_lt x (2 ^ 11) ≡ false = grind (arith, nat_tests) in
-    let is : pos x -ℤ pos (2 ^ 12) ≡ negsuc (2 ^ 12 - 1 - x) = grind (arith, ints) in
-    rw (test, is) (omega arith)
+      let test : nat_lt x (2 ^ 11) ≡ false = grind (arith, nat_tests) in
+      let is : pos x -ℤ pos (2 ^ 12) ≡ negsuc (2 ^ 12 - 1 - x) = grind (arith, ints) in
+      rw (test, is) (omega arith)
 ]
 
 -- ------------------------------------------------------------------------------ format by format

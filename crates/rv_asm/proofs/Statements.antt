@@ -147,7 +147,7 @@ line_read form m i s word is =
     let plain = statement_plain m ts word good in
     let whole : tokens_of (uncommented (m ++ spaced ts)) ≡ Word m ∷ ts = ap tokens_of (plain_whole (m ++ spaced ts) plain) ∙ statement_read m ts word good in
     let read : line_in (tokens_of (uncommented (m ++ spaced ts))) ≡ Some (line None (Some (parts_of form m i))) =
-        ap line_in whole ∙ (unlabelled form m i ∙ rw is (ap (λ (o : Option Parts). option_map (λ (p : Parts). line None (Some p)) o) (shaped form m i s))) in
+    ap line_in whole ∙ (unlabelled form m i ∙ rw is (ap (λ (o : Option Parts). option_map (λ (p : Parts). line None (Some p)) o) (shaped form m i s))) in
     ap (λ (b : Bool). cond b (line_in (tokens_of (uncommented (m ++ spaced ts)))) None) (plain_clean (m ++ spaced ts) plain) ∙ read
 
 -- ------------------------------------------------------------------------------ drafts
@@ -198,9 +198,9 @@ instr_read places number index form i f n room s may ranged same =
     let read : line_of (m ++ spaced (operands form i)) ≡ Some (line None (Some (parts_of form m i))) = line_read form m i s (mnemonic_word i.op i.aq i.rl) (mnemonic_is i.op i.aq i.rl) in
     let drafts : draft_of (parts_of form m i) ≡ Ok d = draft_read form m i i.op (order i.aq i.rl) (named i.op i.aq i.rl may) f n s in
     let number_is : number_in places (form_of i.op) index (value_in form (parts_of form m i)) ≡ Ok (number_of form i) =
-        ap (λ (g : Form). number_in places g index (value_in form (parts_of form m i))) f ∙ (number_read places index form m i n s ∙ ap (λ (b : Bool). in_range b (number_of form i)) ranged) in
+    ap (λ (g : Form). number_in places g index (value_in form (parts_of form m i))) f ∙ (number_read places index form m i n s ∙ ap (λ (b : Bool). in_range b (number_of form i)) ranged) in
     let word : word_by (Named i.op (order i.aq i.rl)) (registers_of form i) (number_of form i) ≡ encode_of i =
-        ap (λ (g : Form). encode_of (instr_of i.op (order i.aq i.rl) (registers_of form i) (immediate_of g (number_of form i)))) f ∙ ap encode_of same in
+    ap (λ (g : Form). encode_of (instr_of i.op (order i.aq i.rl) (registers_of form i) (immediate_of g (number_of form i)))) f ∙ ap encode_of same in
     let is_room : nat_lt index 245760 ≡ true = grind (arith, nat_tests) in
     ap (by_line places number index) read ∙
     (ap (λ (r : Result Draft SourceCause). by_draft places number index None (some_draft r)) drafts ∙

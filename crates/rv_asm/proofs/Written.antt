@@ -174,11 +174,11 @@ unfolding register_in
 register_read r small = elim (cases_lt r 10) [
   | inl low ↦ rw (decimal_digit r low, digit_is r low) (numbered_x (48 + r - 48) r (omega arith) small)
   | inr high ↦
-    let tens : r / 10 < 10 = omega arith in
-    let ones : r % 10 < 10 = omega arith in
-    let some : (48 + r / 10 == 48) ≡ false = grind (arith, nat_tests) in
-    let text : decimal r ≡ (48 + r / 10) ∷ (48 + r % 10) ∷ [] = decimal_step r high (omega arith) ∙ ap (λ (ds : List ℕ). ds ++ (48 + r % 10) ∷ []) (decimal_digit (r / 10) tens) in
-    rw (text, digit_is (r / 10) tens, digit_is (r % 10) ones, some) (numbered_x ((48 + r / 10 - 48) * 10 + (48 + r % 10 - 48)) r (omega arith) small)
+      let tens : r / 10 < 10 = omega arith in
+      let ones : r % 10 < 10 = omega arith in
+      let some : (48 + r / 10 == 48) ≡ false = grind (arith, nat_tests) in
+      let text : decimal r ≡ (48 + r / 10) ∷ (48 + r % 10) ∷ [] = decimal_step r high (omega arith) ∙ ap (λ (ds : List ℕ). ds ++ (48 + r % 10) ∷ []) (decimal_digit (r / 10) tens) in
+      rw (text, digit_is (r / 10) tens, digit_is (r % 10) ones, some) (numbered_x ((48 + r / 10 - 48) * 10 + (48 + r % 10 - 48)) r (omega arith) small)
 ]
 
 -- ------------------------------------------------------------------------------ bytes of words

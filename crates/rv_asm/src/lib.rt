@@ -12,6 +12,8 @@ mod names;
 mod number;
 mod printer;
 mod source;
+#[cfg(test)]
+mod tests;
 mod text;
 mod token;
 
