@@ -1,9 +1,8 @@
 -- The words so far, line by line.
-use Rattle.std.proofs.Common.{◌≡◌, ℕ, ◌+◌, ◌-◌, ◌==◌, Bool, true, false, cond, List, [], ◌∷◌, ◌++◌, length, arith, refl, sym, ap, append_assoc, length-append, max}
+use Rattle.std.proofs.Common.{◌≡◌, ℕ, ◌+◌, ◌-◌, ◌==◌, Bool, false, cond, List, [], ◌∷◌, ◌++◌, length, arith, refl, sym, ap, append_assoc, length-append, max}
 use Rattle.std.specs.Prelude.{Option, None, Some, Result, Ok, Err}
 use Rattle.std.proofs.Math.Path.{◌∙◌, fun_ext}
 use Rattle.std.proofs.lemmas.List.{append-nil}
-use Rattle.std.proofs.lemmas.Bool.Decides.{nat_tests}
 use Rattle.rv_asm.specs.declared.source.SourceCause.{SourceCause}
 use Rattle.rv_asm.specs.declared.source.SourceCause.TheVariants as cause
 use Rattle.rv_asm.specs.declared.source.SourceFault.{SourceFault}
@@ -25,8 +24,8 @@ pub skipped : (places : List ℕ → Option Place) (ws : List ℕ) (rest line af
     words_before ws (assembled_from places (number + 1) index (lines_of rest)) ≡ whole → words_before ws (assembled_from places (number + 1 + 1) index (lines_of after)) ≡ whole
 skipped places ws rest line after number index whole split is before =
     let now : assembled_from places (number + 1) index (lines_of rest) ≡ assembled_from places (number + 1 + 1) index (lines_of after) =
-        ap (assembled_from places (number + 1) index) split ∙
-        ap (λ (r : Result (Option ℕ) SourceCause). then (number + 1) r (assembled_from places (number + 1 + 1) index (lines_of after)) (assembled_from places (number + 1 + 1) (index + 1) (lines_of after))) (sym is) in
+    ap (assembled_from places (number + 1) index) split ∙
+    ap (λ (r : Result (Option ℕ) SourceCause). then (number + 1) r (assembled_from places (number + 1 + 1) index (lines_of after)) (assembled_from places (number + 1 + 1) (index + 1) (lines_of after))) (sym is) in
     ap (words_before ws) (sym now) ∙ before
 
 -- a line with an instruction
@@ -34,8 +33,8 @@ pub added : (places : List ℕ → Option Place) (ws more : List ℕ) (word : �
     words_before ws (assembled_from places (number + 1) (length ws) (lines_of rest)) ≡ whole → words_before more (assembled_from places (number + 1 + 1) (length more) (lines_of after)) ≡ whole
 added places ws more word rest line after number whole split is longer before =
     let now : assembled_from places (number + 1) (length ws) (lines_of rest) ≡ word_before word (assembled_from places (number + 1 + 1) (length ws + 1) (lines_of after)) =
-        ap (assembled_from places (number + 1) (length ws)) split ∙
-        ap (λ (r : Result (Option ℕ) SourceCause). then (number + 1) r (assembled_from places (number + 1 + 1) (length ws) (lines_of after)) (assembled_from places (number + 1 + 1) (length ws + 1) (lines_of after))) (sym is) in
+    ap (assembled_from places (number + 1) (length ws)) split ∙
+    ap (λ (r : Result (Option ℕ) SourceCause). then (number + 1) r (assembled_from places (number + 1 + 1) (length ws) (lines_of after)) (assembled_from places (number + 1 + 1) (length ws + 1) (lines_of after))) (sym is) in
     let long : length more ≡ length ws + 1 = ap length longer ∙ length-append ws (word ∷ []) in
     ap (λ (n : ℕ). words_before more (assembled_from places (number + 1 + 1) n (lines_of after))) long ∙
     (shift (assembled_from places (number + 1 + 1) (length ws + 1) (lines_of after)) ∙ (ap (words_before ws) (sym now) ∙ before))
@@ -50,8 +49,8 @@ pub failed : (places : List ℕ → Option Place) (ws rest line after : List ℕ
 failed places ws rest line after number at index c whole split here same before =
     let is : Err c ≡ line_word places (number + 1) index line = here ∙ ap (λ (n : ℕ). line_word places (number + 1) n line) same in
     let now : assembled_from places (number + 1) index (lines_of rest) ≡ Err (AtLine (number + 1) c) =
-        ap (assembled_from places (number + 1) index) split ∙
-        ap (λ (r : Result (Option ℕ) SourceCause). then (number + 1) r (assembled_from places (number + 1 + 1) index (lines_of after)) (assembled_from places (number + 1 + 1) (index + 1) (lines_of after))) (sym is) in
+    ap (assembled_from places (number + 1) index) split ∙
+    ap (λ (r : Result (Option ℕ) SourceCause). then (number + 1) r (assembled_from places (number + 1 + 1) index (lines_of after)) (assembled_from places (number + 1 + 1) (index + 1) (lines_of after))) (sym is) in
     sym before ∙ ap (words_before ws) now
 
 no_lines : (rest : List ℕ) → length rest ≡ 0 → lines_of rest ≡ []

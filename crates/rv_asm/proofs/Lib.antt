@@ -6,6 +6,8 @@ pub mod Places
 pub mod Prints
 pub mod Ranges
 pub mod Reading
+pub mod Results
+pub mod Roundtrip
 pub mod Statements
 pub mod Texts
 pub mod Tokens

@@ -1,16 +1,15 @@
 -- Each mnemonic names its instruction and its ordering. Each of these facts is computed for every instruction.
 use Rattle.std.specs.Prelude.{codes}
 use Rattle.std.specs.List.{list_all}
-use Rattle.std.proofs.Common.{◌≡◌, ℕ, Bool, true, false, cond, List, [], ◌∷◌, ◌++◌, length, ◌<◌, ◌==◌, ◌||◌, ◌&&◌, arith, refl, ap, length-append, Option, None, Some}
+use Rattle.std.proofs.Common.{◌≡◌, ℕ, Bool, true, false, cond, List, [], ◌∷◌, ◌++◌, length, ◌<◌, ◌==◌, ◌||◌, ◌&&◌, arith, refl, ap, length-append, None, Some}
 use Rattle.std.proofs.Math.Path.{◌∙◌}
 use Rattle.rv_decode.specs.declared.Op.{Op}
 use Rattle.rv_decode.specs.declared.Op.TheVariants.{Lui}
 use Rattle.rv_decode.specs.Words.{row_of}
-use Rattle.rv_asm.specs.declared.names.Mnemonic.{Mnemonic}
 use Rattle.rv_asm.specs.declared.names.Mnemonic.TheVariants.{Named}
-use Rattle.rv_asm.specs.Syntax.{is_between, is_digit, is_letter, is_name_byte, is_mnemonic_byte, is_word_byte, is_mnemonic}
+use Rattle.rv_asm.specs.Syntax.{is_digit, is_letter, is_name_byte, is_mnemonic_byte, is_word_byte, is_mnemonic}
 use Rattle.rv_asm.proofs.Written.{IsWord, all_append}
-use Rattle.rv_asm.specs.Names.{name_of, ops, form_of, form_by, has_ordering, order, ordering_text, ordering_of, mnemonic_in}
+use Rattle.rv_asm.specs.Names.{name_of, ops, form_of, has_ordering, order, ordering_text, ordering_of, mnemonic_in}
 
 named_plain : (op : Op) → mnemonic_in (name_of op ++ []) ≡ Some (Named op (order false false))
 unfolding mnemonic_in ordering_of name_of ops form_of row_of

@@ -1,8 +1,7 @@
 -- Counting that stops at a bound.
-use Rattle.std.proofs.Common.{◌≡◌, ℕ, suc, ◌+◌, ◌*◌, ◌^◌, ◌<◌, ◌≤◌, min, List, [], ◌∷◌, arith, refl, sym, ap, inl, inr, length, drop, get_or, add-one, drop-cons}
+use Rattle.std.proofs.Common.{◌≡◌, ℕ, ◌+◌, ◌*◌, ◌^◌, ◌<◌, ◌≤◌, min, List, [], ◌∷◌, arith, sym, ap, inl, inr, length, drop, get_or, add-one, drop-cons}
 use Rattle.std.proofs.lemmas.Bool.{cases_lt}
 use Rattle.std.proofs.Math.Path.{◌∙◌}
-use Rattle.std.proofs.Math.Nat.{mul-le-mul_left, mul-le-mul_right}
 use Rattle.rv_asm.specs.Syntax.{digit_of, digits_from}
 
 -- digits only make a number greater
@@ -21,10 +20,10 @@ pub early : (base n : ℕ) (ds : List ℕ) → 1 ≤ base → min (digits_from b
 early base n ds some = elim (cases_lt n (2 ^ 40)) [
   | inl lt ↦ let same : min n (2 ^ 40) ≡ n = omega arith in ap (λ (m : ℕ). min (digits_from base m ds) (2 ^ 40)) same
   | inr ge ↦
-    let cut : min n (2 ^ 40) ≡ 2 ^ 40 = omega arith in
-    let a : 2 ^ 40 ≤ digits_from base (2 ^ 40) ds = grows base (2 ^ 40) ds some in
-    let b : n ≤ digits_from base n ds = grows base n ds some in
-    ap (λ (m : ℕ). min (digits_from base m ds) (2 ^ 40)) cut ∙ omega (arith, a, b)
+      let cut : min n (2 ^ 40) ≡ 2 ^ 40 = omega arith in
+      let a : 2 ^ 40 ≤ digits_from base (2 ^ 40) ds = grows base (2 ^ 40) ds some in
+      let b : n ≤ digits_from base n ds = grows base n ds some in
+      ap (λ (m : ℕ). min (digits_from base m ds) (2 ^ 40)) cut ∙ omega (arith, a, b)
 ]
 
 pub capped_digit : (base n d : ℕ) (ds : List ℕ) → 1 ≤ base → min (digits_from base (min (n * base + digit_of d) (2 ^ 40)) ds) (2 ^ 40) ≡ min (digits_from base n (d ∷ ds)) (2 ^ 40)

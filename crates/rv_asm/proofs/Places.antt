@@ -1,5 +1,5 @@
 -- The labels of a source, line by line.
-use Rattle.std.proofs.Common.{◌≡◌, ℕ, ◌+◌, Bool, true, false, cond, List, [], ◌∷◌, refl, sym, ap, rules}
+use Rattle.std.proofs.Common.{◌≡◌, ℕ, ◌+◌, Bool, true, false, cond, List, [], ◌∷◌, refl, sym, ap}
 use Rattle.std.specs.Prelude.{Option, None, Some, is_some}
 use Rattle.std.proofs.Math.Path.{◌∙◌}
 use Rattle.std.specs.Map.{lookup}
@@ -74,7 +74,7 @@ pub one_more : (rest line after : List ℕ) (seen : Option Line) (number index s
 one_more rest line after seen number index size old new q all split is sized added before =
     let now : labels_from (number + 1) index (lines_of rest) ≡ with_label (line_of line) (number + 1) index (labels_from (number + 1 + 1) (index + size_of (line_of line)) (lines_of after)) = ap (labels_from (number + 1) index) split in
     let same : with_label seen (number + 1) index (labels_from (number + 1 + 1) (index + size) (lines_of after)) ≡ labels_from (number + 1) index (lines_of rest) =
-        ap (λ (n : ℕ). with_label seen (number + 1) index (labels_from (number + 1 + 1) (index + n) (lines_of after))) sized ∙ (ap (λ (l : Option Line). with_label l (number + 1) index (labels_from (number + 1 + 1) (index + size_of l) (lines_of after))) is ∙ sym now) in
+    ap (λ (n : ℕ). with_label seen (number + 1) index (labels_from (number + 1 + 1) (index + n) (lines_of after))) sized ∙ (ap (λ (l : Option Line). with_label l (number + 1) index (labels_from (number + 1 + 1) (index + size_of l) (lines_of after))) is ∙ sym now) in
     ap (λ (o : Option Place). option_or o (lookup (bytes_eq q) (labels_from (number + 1 + 1) (index + size) (lines_of after)))) added ∙
     (label_more (old q) seen (number + 1) index (labels_from (number + 1 + 1) (index + size) (lines_of after)) q ∙
     (ap (λ (ps : List (List ℕ × Place)). option_or (old q) (lookup (bytes_eq q) ps)) same ∙ before))

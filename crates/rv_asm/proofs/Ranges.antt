@@ -1,13 +1,11 @@
 -- Numbers that are near one another are in the same ranges, and equal where they are in one.
-use Rattle.std.proofs.Common.{◌≡◌, ℕ, ◌^◌, ◌&&◌, Bool, true, false, cond, arith, refl, sym, ap, inl, inr, ◌⊎◌, Result, Ok, Err}
-use Rattle.std.specs.Prelude.{ℤ, pos, negsuc, int_le, ◌≤ℤ◌, ◌-ℤ◌}
-use Rattle.std.proofs.Math.Path.{◌∙◌}
+use Rattle.std.proofs.Common.{◌≡◌, ◌^◌, ◌&&◌, Bool, true, false, arith, refl, ap, inl, inr}
+use Rattle.std.specs.Prelude.{ℤ, pos, int_le, ◌≤ℤ◌, ◌-ℤ◌}
 use Rattle.std.proofs.lemmas.Int.{ints}
-use Rattle.std.proofs.lemmas.Bool.Decides.{nat_tests}
 use Rattle.rv_asm.specs.declared.form.Form.{Form}
-use Rattle.rv_asm.specs.declared.form.Form.TheVariants.{Upper, Jump, Branch, Offset, Store, Immediate, Shift, ShiftWord, Register, Fence, Bare, Reserve, Atomic, Data}
-use Rattle.rv_asm.specs.Near.{IsNear, AreFar, AreFarBelow}
-use Rattle.rv_asm.specs.Meaning.{lowest, highest, is_stepped, is_in_range, within}
+use Rattle.rv_asm.specs.declared.form.Form.TheVariants.{Upper}
+use Rattle.rv_asm.specs.Near.{IsNear}
+use Rattle.rv_asm.specs.Meaning.{lowest, highest, is_in_range, within}
 
 far_high : (form : Form) (a : ℤ) → pos (2 ^ 40) ≤ℤ a → int_le a (highest form) ≡ false
 far_high Upper a h = grind (arith, ints)

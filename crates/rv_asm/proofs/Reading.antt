@@ -1,12 +1,11 @@
 -- What the printer writes is read as the same tokens.
-use Rattle.std.specs.Prelude.{codes}
 use Rattle.std.specs.List.{list_all}
-use Rattle.std.proofs.Common.{◌≡◌, ℕ, ◌+◌, ◌<◌, ◌≤◌, ◌==◌, ◌&&◌, ◌||◌, Bool, true, false, cond, not, nat_le, List, [], ◌∷◌, ◌++◌, length, arith, refl, sym, ap, ap₂}
+use Rattle.std.proofs.Common.{◌≡◌, ℕ, ◌≤◌, ◌==◌, ◌&&◌, Bool, true, false, cond, not, List, [], ◌∷◌, ◌++◌, arith, refl, sym, ap}
 use Rattle.std.proofs.Math.Path.{◌∙◌}
 use Rattle.std.proofs.lemmas.Bool.Decides.{nat_tests}
-use Rattle.rv_asm.specs.Syntax.{Token, Word, Comma, Open, Close, Colon, Other, is_between, is_blank, is_clean, is_digit, is_letter, is_name_byte, is_word_byte, mark_of, lexed, with_mark, with_word, word_at, tokens_after, tokens_of, uncommented}
+use Rattle.rv_asm.specs.Syntax.{Token, Word, Comma, Open, Close, Colon, Other, is_blank, is_clean, is_digit, is_letter, is_name_byte, is_word_byte, mark_of, lexed, with_mark, with_word, word_at, tokens_after, tokens_of, uncommented}
 use Rattle.rv_asm.specs.Source.{lines_of, before_lines}
-use Rattle.rv_asm.specs.Printed.{token_text, tokens_text, spaced}
+use Rattle.rv_asm.specs.Printed.{tokens_text, spaced}
 use Rattle.rv_asm.proofs.Tokens.{tokens_blank, tokens_mark, word_begins}
 use Rattle.rv_asm.proofs.Written.{IsWord, all_append, all_so, first_all}
 

@@ -4,7 +4,7 @@ use Rattle.std.specs.Fmt.{signed_decimal}
 use Rattle.std.specs.Int.Signed.{mag}
 use Rattle.std.specs.List.{list_all}
 use Rattle.std.specs.Option.{option_map}
-use Rattle.std.proofs.Common.{◌≡◌, ℕ, ◌+◌, ◌*◌, ◌/◌, ◌%◌, ◌^◌, ◌<◌, Bool, true, false, cond, nat_lt, List, [], ◌∷◌, ◌++◌, arith, refl, sym, ap, Option, None, Some, Result, Ok, Err}
+use Rattle.std.proofs.Common.{◌≡◌, ℕ, ◌/◌, ◌%◌, ◌^◌, ◌<◌, Bool, true, cond, nat_lt, List, [], ◌∷◌, ◌++◌, arith, refl, ap, Option, None, Some, Result, Ok, Err}
 use Rattle.std.proofs.Math.Path.{◌∙◌}
 use Rattle.std.proofs.lemmas.Bool.Decides.{nat_tests}
 use Rattle.std.proofs.lemmas.Int.{ints}
@@ -13,21 +13,21 @@ use Rattle.rv_decode.specs.declared.Instr.{Instr}
 use Rattle.rv_decode.specs.Words.{imm_word, encode_of}
 use Rattle.rv_asm.specs.declared.form.Form.{Form}
 use Rattle.rv_asm.specs.declared.form.Form.TheVariants.{Upper, Jump, Branch, Offset, Store, Immediate, Shift, ShiftWord, Register, Fence, Bare, Reserve, Atomic, Data}
-use Rattle.rv_asm.specs.declared.line.Shape.TheVariants.{Nothing, Number, NameNumber, NameName, NameNameNumber, NameNameName, NameOffset, NameAddress, NameNameAddress}
+use Rattle.rv_asm.specs.declared.line.Shape.TheVariants.{Nothing, Number, NameNumber, NameNameNumber, NameNameName, NameOffset, NameAddress, NameNameAddress}
 use Rattle.rv_asm.specs.declared.names.Ordering.{Ordering}
-use Rattle.rv_asm.specs.declared.names.Mnemonic.TheVariants.{Named, Word as DataWord}
+use Rattle.rv_asm.specs.declared.names.Mnemonic.TheVariants.{Named}
 use Rattle.rv_asm.specs.declared.meaning.Registers.{Registers}
 use Rattle.rv_asm.specs.declared.labels.Place.{Place}
 use Rattle.rv_asm.specs.declared.source.SourceCause.{SourceCause}
 use Rattle.rv_asm.specs.declared.source.SourceCause.TheVariants.{Range as out_of_range, Size as too_many}
-use Rattle.rv_asm.specs.Names.{name_of, form_of, order, ordering_text, mnemonic_in}
-use Rattle.rv_asm.specs.Syntax.{Token, Word, Line, line, Parts, parts, is_mnemonic, is_clean, is_word_byte, is_name_byte, is_letter, is_digit, is_mnemonic_byte, tokens_of, uncommented, operands_in, statement_in, after_word, line_in, line_of}
+use Rattle.rv_asm.specs.Names.{form_of, order, mnemonic_in}
+use Rattle.rv_asm.specs.Syntax.{Token, Word, line, Parts, parts, is_mnemonic, is_word_byte, is_name_byte, is_letter, is_digit, is_mnemonic_byte, tokens_of, uncommented, operands_in, statement_in, after_word, line_in, line_of}
 use Rattle.rv_asm.specs.Meaning.{registers, value_in, draft, draft_of, Draft, is_in_range, within, number_in, worded, word_by, word_in, immediate_of, instr_of}
-use Rattle.rv_asm.specs.Source.{line_word, by_line, by_draft, drafted, some_draft, word_for, sized}
-use Rattle.rv_asm.specs.Printed.{register_text, operands, spaced, statement_text, mnemonic_text, instr_text}
+use Rattle.rv_asm.specs.Source.{line_word, by_line, by_draft, some_draft, sized}
+use Rattle.rv_asm.specs.Printed.{register_text, operands, spaced, statement_text, mnemonic_text}
 use Rattle.rv_asm.proofs.Written.{IsWord, natural_number, natural_no_name, natural_value, signed_number, signed_no_name, signed_value, register_name, register_read, natural_word, signed_word, register_word}
 use Rattle.rv_asm.proofs.Mnemonics.{MayStand, named, mnemonic_word, mnemonic_is}
-use Rattle.rv_asm.proofs.Reading.{Fine, statement_read, statement_plain, plain_clean, plain_whole}
+use Rattle.rv_asm.proofs.Reading.{is_plain, Fine, statement_read, statement_plain, plain_clean, plain_whole}
 
 -- what is known of every instruction that a word decodes to
 pub record IsSmall (i : Instr) : Type 0 where
@@ -147,7 +147,7 @@ line_read form m i s word is =
     let plain = statement_plain m ts word good in
     let whole : tokens_of (uncommented (m ++ spaced ts)) ≡ Word m ∷ ts = ap tokens_of (plain_whole (m ++ spaced ts) plain) ∙ statement_read m ts word good in
     let read : line_in (tokens_of (uncommented (m ++ spaced ts))) ≡ Some (line None (Some (parts_of form m i))) =
-        ap line_in whole ∙ (unlabelled form m i ∙ rw is (ap (λ (o : Option Parts). option_map (λ (p : Parts). line None (Some p)) o) (shaped form m i s))) in
+    ap line_in whole ∙ (unlabelled form m i ∙ rw is (ap (λ (o : Option Parts). option_map (λ (p : Parts). line None (Some p)) o) (shaped form m i s))) in
     ap (λ (b : Bool). cond b (line_in (tokens_of (uncommented (m ++ spaced ts)))) None) (plain_clean (m ++ spaced ts) plain) ∙ read
 
 -- ------------------------------------------------------------------------------ drafts
@@ -198,9 +198,9 @@ instr_read places number index form i f n room s may ranged same =
     let read : line_of (m ++ spaced (operands form i)) ≡ Some (line None (Some (parts_of form m i))) = line_read form m i s (mnemonic_word i.op i.aq i.rl) (mnemonic_is i.op i.aq i.rl) in
     let drafts : draft_of (parts_of form m i) ≡ Ok d = draft_read form m i i.op (order i.aq i.rl) (named i.op i.aq i.rl may) f n s in
     let number_is : number_in places (form_of i.op) index (value_in form (parts_of form m i)) ≡ Ok (number_of form i) =
-        ap (λ (g : Form). number_in places g index (value_in form (parts_of form m i))) f ∙ (number_read places index form m i n s ∙ ap (λ (b : Bool). in_range b (number_of form i)) ranged) in
+    ap (λ (g : Form). number_in places g index (value_in form (parts_of form m i))) f ∙ (number_read places index form m i n s ∙ ap (λ (b : Bool). in_range b (number_of form i)) ranged) in
     let word : word_by (Named i.op (order i.aq i.rl)) (registers_of form i) (number_of form i) ≡ encode_of i =
-        ap (λ (g : Form). encode_of (instr_of i.op (order i.aq i.rl) (registers_of form i) (immediate_of g (number_of form i)))) f ∙ ap encode_of same in
+    ap (λ (g : Form). encode_of (instr_of i.op (order i.aq i.rl) (registers_of form i) (immediate_of g (number_of form i)))) f ∙ ap encode_of same in
     let is_room : nat_lt index 245760 ≡ true = grind (arith, nat_tests) in
     ap (by_line places number index) read ∙
     (ap (λ (r : Result Draft SourceCause). by_draft places number index None (some_draft r)) drafts ∙
@@ -234,3 +234,10 @@ data_read places number index word room small =
     let high : int_le (pos word) (pos 4294967295) ≡ true = grind (arith, ints) in
     let low : int_le (pos 0) (pos word) ≡ true = grind (arith, ints) in
     ap (by_line places number index) text ∙ rw (natural_value word big, low, high, is_room) refl
+
+pub data_plain : (word : ℕ) → word < 2 ^ 32 → list_all is_plain (statement_text (codes ".word") (Word (decimal word) ∷ [])) ≡ true
+unfolding is_word_byte is_name_byte is_letter is_digit
+data_plain word small =
+    let big : word < 2 ^ 64 = omega arith in
+    let is : IsWord (codes ".word") = record { bytes = refl; some = omega arith } in
+    statement_plain (codes ".word") (Word (decimal word) ∷ []) is (natural_word word big, tt, tt)

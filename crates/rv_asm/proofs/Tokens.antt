@@ -1,8 +1,7 @@
 -- What stands next in a text: blanks add nothing, a word is as long as can be, and any other byte is a mark.
-use Rattle.std.proofs.Common.{◌≡◌, ℕ, suc, ◌+◌, ◌<◌, ◌≤◌, ◌==◌, ◌||◌, ◌&&◌, Bool, true, false, cond, List, [], ◌∷◌, ◌++◌, length, take, drop, arith, refl, sym, ap, ap₂, subst, eqb-true, length-take}
+use Rattle.std.proofs.Common.{◌≡◌, ℕ, ◌<◌, ◌≤◌, ◌==◌, ◌||◌, Bool, true, false, cond, List, [], ◌∷◌, length, take, drop, arith, refl, sym, ap, ap₂, eqb-true, length-take}
 use Rattle.std.proofs.Math.Path.{◌∙◌}
-use Rattle.std.proofs.lemmas.Bool.Decides.{nat_tests}
-use Rattle.rv_asm.specs.Syntax.{Token, Word, is_between, is_blank, is_digit, is_letter, is_name_byte, is_word_byte, begins_blank, mark_of, lexed, with_mark, with_word, word_at, tokens_after, tokens_of}
+use Rattle.rv_asm.specs.Syntax.{Word, is_blank, is_digit, is_letter, is_name_byte, is_word_byte, begins_blank, mark_of, lexed, with_mark, with_word, word_at, tokens_after, tokens_of}
 
 -- a blank is no part of a word
 pub blank_ends : (c : ℕ) → is_blank c ≡ true → is_word_byte c ≡ false

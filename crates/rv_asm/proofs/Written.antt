@@ -1,16 +1,16 @@
 -- Words that the printer writes: which bytes they have, and what is read of them.
-use Rattle.std.specs.Prelude.{decimal, codes, ℤ, pos, negsuc, ◌-ℤ◌}
+use Rattle.std.specs.Prelude.{decimal, ℤ, pos, negsuc, ◌-ℤ◌}
 use Rattle.std.specs.Fmt.{signed_decimal}
 use Rattle.std.specs.Int.Signed.{mag}
 use Rattle.std.specs.List.{list_all}
-use Rattle.std.proofs.Common.{◌≡◌, ℕ, zero, suc, ◌+◌, ◌-◌, ◌*◌, ◌/◌, ◌%◌, ◌^◌, ◌<◌, ◌≤◌, ◌==◌, ◌&&◌, ◌||◌, Bool, true, false, cond, not, nat_lt, nat_le, nat_eq, List, [], ◌∷◌, ◌++◌, length, arith, refl, sym, ap, ap₂, append_assoc, length-append, Option, None, Some, inl, inr}
+use Rattle.std.proofs.Common.{◌≡◌, ℕ, suc, ◌+◌, ◌-◌, ◌*◌, ◌/◌, ◌%◌, ◌^◌, ◌<◌, ◌≤◌, ◌==◌, ◌&&◌, ◌||◌, Bool, true, false, nat_lt, List, [], ◌∷◌, ◌++◌, length, arith, refl, sym, ap, ap₂, Some, inl, inr}
 use Rattle.std.proofs.Math.Path.{◌∙◌}
 use Rattle.std.proofs.lemmas.Bool.{cases_lt}
 use Rattle.std.proofs.lemmas.Bool.Decides.{nat_tests}
 use Rattle.std.proofs.lemmas.Int.{ints}
 use Rattle.std.proofs.lemmas.Fmt.{decimal_by_steps, decimal_digit, decimal_step, decimal_nonempty}
-use Rattle.rv_asm.specs.Syntax.{is_between, is_digit, is_letter, is_name_byte, is_mnemonic_byte, is_word_byte, is_hex, is_name, is_number, are_digits, digit_of, digits_from, value_of}
-use Rattle.rv_asm.specs.Registers.{register_in, with_letter, small_number, numbered_in, numbered}
+use Rattle.rv_asm.specs.Syntax.{is_digit, is_letter, is_name_byte, is_word_byte, is_hex, is_name, is_number, digit_of, digits_from, value_of}
+use Rattle.rv_asm.specs.Registers.{register_in, numbered_in}
 use Rattle.rv_asm.specs.Printed.{register_text}
 
 pub all_append : (p : ℕ → Bool) (xs ys : List ℕ) → list_all p xs ≡ true → list_all p ys ≡ true → list_all p (xs ++ ys) ≡ true
@@ -174,11 +174,11 @@ unfolding register_in
 register_read r small = elim (cases_lt r 10) [
   | inl low ↦ rw (decimal_digit r low, digit_is r low) (numbered_x (48 + r - 48) r (omega arith) small)
   | inr high ↦
-    let tens : r / 10 < 10 = omega arith in
-    let ones : r % 10 < 10 = omega arith in
-    let some : (48 + r / 10 == 48) ≡ false = grind (arith, nat_tests) in
-    let text : decimal r ≡ (48 + r / 10) ∷ (48 + r % 10) ∷ [] = decimal_step r high (omega arith) ∙ ap (λ (ds : List ℕ). ds ++ (48 + r % 10) ∷ []) (decimal_digit (r / 10) tens) in
-    rw (text, digit_is (r / 10) tens, digit_is (r % 10) ones, some) (numbered_x ((48 + r / 10 - 48) * 10 + (48 + r % 10 - 48)) r (omega arith) small)
+      let tens : r / 10 < 10 = omega arith in
+      let ones : r % 10 < 10 = omega arith in
+      let some : (48 + r / 10 == 48) ≡ false = grind (arith, nat_tests) in
+      let text : decimal r ≡ (48 + r / 10) ∷ (48 + r % 10) ∷ [] = decimal_step r high (omega arith) ∙ ap (λ (ds : List ℕ). ds ++ (48 + r % 10) ∷ []) (decimal_digit (r / 10) tens) in
+      rw (text, digit_is (r / 10) tens, digit_is (r % 10) ones, some) (numbered_x ((48 + r / 10 - 48) * 10 + (48 + r % 10 - 48)) r (omega arith) small)
 ]
 
 -- ------------------------------------------------------------------------------ bytes of words

@@ -1,6 +1,6 @@
 -- What an instruction of a source is: the instruction that its mnemonic names, its registers, and its number, which the
 -- row of its mnemonic bounds.
-use Rattle.std.specs.Prelude.{ℕ, ◌+◌, ◌*◌, ◌%◌, ◌^◌, ◌==◌, ◌&&◌, ◌||◌, nat_lt, not, Bool, true, false, cond, List, ℤ, pos, negsuc, ◌-ℤ◌, int_le, Option, None, Some, Result, Ok, Err}
+use Rattle.std.specs.Prelude.{ℕ, ◌*◌, ◌%◌, ◌^◌, ◌==◌, ◌&&◌, Bool, true, false, cond, List, ℤ, pos, negsuc, ◌-ℤ◌, int_le, Option, None, Some, Result, Ok, Err}
 use Rattle.std.specs.Int.{w64, cast_unsigned}
 use Rattle.rv_decode.specs.declared.Op.{Op}
 use Rattle.rv_decode.specs.declared.Instr.{Instr}

@@ -1,6 +1,6 @@
 -- The mnemonics: the names of the instruction table in lower case, where LR, SC and the atomics have `.w` or `.d` after
 -- it. Those may have `.aq`, `.rl` or `.aqrl` after that. And which operands a mnemonic takes.
-use Rattle.std.specs.Prelude.{ℕ, ◌==◌, ◌||◌, Bool, true, false, cond, List, [], ◌∷◌, ◌++◌, length, take, drop, codes, Option, None, Some}
+use Rattle.std.specs.Prelude.{ℕ, ◌==◌, ◌||◌, Bool, true, false, cond, List, [], ◌∷◌, length, take, drop, codes, Option, None, Some}
 use Rattle.std.specs.Option.{option_map, option_or}
 use Rattle.std.specs.Str.{bytes_eq}
 use Rattle.rv_decode.specs.declared.Op.{Op}

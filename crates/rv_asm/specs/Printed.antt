@@ -1,6 +1,6 @@
 -- How words are printed: one line for each word. An instruction has its mnemonic, one blank and its operands without
 -- blanks, with registers by their numbers and decimal numbers; a word that is no instruction is `.word` and its number.
-use Rattle.std.specs.Prelude.{ℕ, ◌+◌, ◌/◌, ◌%◌, ◌^◌, ◌≤◌, ◌<◌, List, [], ◌∷◌, ◌++◌, length, codes, decimal, ℤ, pos, Option, None, Some}
+use Rattle.std.specs.Prelude.{ℕ, ◌/◌, ◌%◌, ◌^◌, List, [], ◌∷◌, ◌++◌, codes, decimal, ℤ, Option, None, Some}
 use Rattle.std.specs.Fmt.{signed_decimal}
 use Rattle.rv_decode.specs.declared.Instr.{Instr}
 use Rattle.rv_decode.specs.Rows.{decode_of}

@@ -1,6 +1,6 @@
 -- The registers: x0 to x31, and their names in the ABI: zero, ra, sp, gp and tp are x0 to x4, t0 to t2 x5 to x7, s0 and s1
 -- x8 and x9, a0 to a7 x10 to x17, s2 to s11 x18 to x27, t3 to t6 x28 to x31.
-use Rattle.std.specs.Prelude.{ℕ, ◌+◌, ◌-◌, ◌*◌, nat_lt, ◌==◌, ◌&&◌, not, Bool, cond, List, [], ◌∷◌, codes, Option, None, Some}
+use Rattle.std.specs.Prelude.{ℕ, ◌+◌, ◌-◌, ◌*◌, nat_lt, ◌==◌, ◌&&◌, not, cond, List, [], ◌∷◌, codes, Option, None, Some}
 use Rattle.std.specs.Option.{option_or}
 use Rattle.std.specs.Str.{bytes_eq}
 use Rattle.rv_asm.specs.Syntax.{is_digit}

@@ -1,7 +1,7 @@
 -- How a line is read. A line is an optional label and `:`, then an optional instruction, then an optional comment from
 -- `#` to its end. Blanks, space and tab, stand anywhere between the parts, and divide words. Every other byte is a visible
 -- one of ASCII, also in a comment.
-use Rattle.std.specs.Prelude.{ℕ, ◌+◌, ◌-◌, ◌*◌, nat_lt, nat_le, ◌==◌, ◌&&◌, ◌||◌, not, Bool, true, false, cond, List, [], ◌∷◌, ◌++◌, Option, None, Some, ℤ, pos, ◌-ℤ◌}
+use Rattle.std.specs.Prelude.{ℕ, ◌+◌, ◌-◌, ◌*◌, nat_lt, nat_le, ◌==◌, ◌&&◌, ◌||◌, Bool, false, cond, List, [], ◌∷◌, Option, None, Some, ℤ, pos, ◌-ℤ◌}
 use Rattle.std.specs.List.{list_all}
 use Rattle.std.specs.Option.{option_map}
 use Rattle.rv_asm.specs.declared.token.Kind.{Kind}

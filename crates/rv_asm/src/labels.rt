@@ -32,24 +32,28 @@ pub(crate) fn place_of(labels: &Labels<'_>, name: &[u8]) -> Option<Place>
 }
 
 /// Adds a label, if it is new.
-fn add_name<'a>(labels: &mut Labels<'a>, name: &'a [u8], line: u64, index: u64) -> Result<(), NoMemory>
+fn add_name<'a>(
+    labels: &mut Labels<'a>,
+    name: &'a [u8],
+    line: u64,
+    index: u64,
+) -> Result<(), NoMemory>
     ensures { OnOk result ((q : List ℕ) → places_in labels.new q ≡ option_or (places_in labels.old q) (lookup (bytes_eq q) ((name.now, place line index) ∷ []))) }
 {
     if labels.contains_key(name) {
         return Ok(());
     }
-    labels.insert(
-        name,
-        Place {
-            line,
-            index,
-        },
-    )?;
+    labels.insert(name, Place { line, index })?;
     Ok(())
 }
 
 /// Adds a line's label.
-fn add_label<'a>(labels: &mut Labels<'a>, line: &Option<Line<'a>>, number: u64, index: u64) -> Result<(), NoMemory>
+fn add_label<'a>(
+    labels: &mut Labels<'a>,
+    line: &Option<Line<'a>>,
+    number: u64,
+    index: u64,
+) -> Result<(), NoMemory>
     ensures { OnOk result ((q : List ℕ) → places_in labels.new q ≡ option_or (places_in labels.old q) (lookup (bytes_eq q) (with_label (some_line_seen line.now) number index []))) }
 {
     let Some(line) = line else {
@@ -67,10 +71,12 @@ fn size_of(line: &Option<Line<'_>>) -> u64
     ensures small { result ≤ 1 }
 {
     match line {
-        Some(Line {
-            statement: Some(_),
-            ..
-        }) => 1,
+        Some(
+            Line {
+                statement: Some(_),
+                ..
+            },
+        ) => 1,
         _ => 0,
     }
 }

@@ -5,17 +5,21 @@
 
 mod form;
 mod labels;
+mod laws;
 mod line;
 mod meaning;
 mod names;
 mod number;
 mod printer;
 mod source;
+#[cfg(test)]
+mod tests;
 mod text;
 mod token;
 
 pub use form::Form;
 pub use labels::Place;
+pub use laws::printed_assembles;
 pub use meaning::Registers;
 pub use names::{Mnemonic, Ordering};
 pub use printer::print;

@@ -67,7 +67,12 @@ fn closed(text: &[u8]) -> Option<&[u8]>
 }
 
 /// A third operand that is a word.
-fn third_word<'a>(mnemonic: &'a [u8], first: &'a [u8], second: &'a [u8], third: &'a [u8]) -> Option<Parts<'a>>
+fn third_word<'a>(
+    mnemonic: &'a [u8],
+    first: &'a [u8],
+    second: &'a [u8],
+    third: &'a [u8],
+) -> Option<Parts<'a>>
     ensures { some_parts_seen result ≡ third_word mnemonic.now first.now second.now third.now }
 {
     let shape = if is_name(third) {
@@ -87,7 +92,12 @@ fn third_word<'a>(mnemonic: &'a [u8], first: &'a [u8], second: &'a [u8], third: 
 }
 
 /// After `w,w,`.
-fn third_in<'a>(mnemonic: &'a [u8], first: &'a [u8], second: &'a [u8], text: &'a [u8]) -> Option<Parts<'a>>
+fn third_in<'a>(
+    mnemonic: &'a [u8],
+    first: &'a [u8],
+    second: &'a [u8],
+    text: &'a [u8],
+) -> Option<Parts<'a>>
     ensures { some_parts_seen result ≡ third_in mnemonic.now first.now second.now (tokens_of text.now) }
 {
     let next = next_token(text);
@@ -131,7 +141,12 @@ fn second_word<'a>(mnemonic: &'a [u8], first: &'a [u8], second: &'a [u8]) -> Opt
 }
 
 /// A number and a name in brackets.
-fn offset_in<'a>(mnemonic: &'a [u8], first: &'a [u8], second: &'a [u8], text: &'a [u8]) -> Option<Parts<'a>>
+fn offset_in<'a>(
+    mnemonic: &'a [u8],
+    first: &'a [u8],
+    second: &'a [u8],
+    text: &'a [u8],
+) -> Option<Parts<'a>>
     ensures { some_parts_seen result ≡ offset_in mnemonic.now first.now second.now (tokens_of text.now) }
 {
     if !is_number(second) {
@@ -148,7 +163,12 @@ fn offset_in<'a>(mnemonic: &'a [u8], first: &'a [u8], second: &'a [u8], text: &'
 }
 
 /// After `w,` and a second word.
-fn after_second<'a>(mnemonic: &'a [u8], first: &'a [u8], second: &'a [u8], text: &'a [u8]) -> Option<Parts<'a>>
+fn after_second<'a>(
+    mnemonic: &'a [u8],
+    first: &'a [u8],
+    second: &'a [u8],
+    text: &'a [u8],
+) -> Option<Parts<'a>>
     ensures { some_parts_seen result ≡ after_second mnemonic.now first.now second.now (tokens_of text.now) }
 {
     let next = next_token(text);

@@ -12,9 +12,9 @@ ghost use Rattle.rv_asm.specs.Found.{places_in};
 ghost use Rattle.rv_asm.specs.Seen.{parts_seen, value_seen, draft_seen, result_draft_seen};
 
 use crate::form::{Form, form_of};
+use crate::labels::{Labels, place_of};
 use crate::line::{Parts, Shape};
 use crate::names::{Mnemonic, Ordering, mnemonic_in};
-use crate::labels::{Labels, place_of};
 use crate::number::{FAR, number_of, register_in};
 use crate::source::SourceCause;
 use rv_decode::{Instr, Op, encode};
@@ -52,7 +52,9 @@ fn takes(form: Form, shape: Shape) -> bool
         Form::Jump => matches!(shape, Shape::NameNumber | Shape::NameName),
         Form::Branch => matches!(shape, Shape::NameNameNumber | Shape::NameNameName),
         Form::Offset | Form::Store => matches!(shape, Shape::NameOffset),
-        Form::Immediate | Form::Shift | Form::ShiftWord | Form::Fence => { matches!(shape, Shape::NameNameNumber) }
+        Form::Immediate | Form::Shift | Form::ShiftWord | Form::Fence => {
+            matches!(shape, Shape::NameNameNumber)
+        }
         Form::Register => matches!(shape, Shape::NameNameName),
         Form::Bare => matches!(shape, Shape::Nothing),
         Form::Reserve => matches!(shape, Shape::NameAddress),
@@ -110,7 +112,9 @@ fn value_in<'a>(form: Form, parts: &Parts<'a>) -> Value<'a>
         Form::Upper | Form::Offset | Form::Store => Value::Written(parts.second),
         Form::Jump => target(parts.shape, parts.second),
         Form::Branch => target(parts.shape, parts.third),
-        Form::Immediate | Form::Shift | Form::ShiftWord | Form::Fence => { Value::Written(parts.third) }
+        Form::Immediate | Form::Shift | Form::ShiftWord | Form::Fence => {
+            Value::Written(parts.third)
+        }
         Form::Register | Form::Bare | Form::Reserve | Form::Atomic => Value::NoNumber,
         Form::Data => Value::Written(parts.first),
     }
@@ -241,7 +245,12 @@ fn to_place(form: Form, index: u64, place: u64) -> Result<i64, SourceCause>
 }
 
 /// The number of the instruction at an index.
-fn number_in(labels: &Labels<'_>, form: Form, index: u64, value: Value<'_>) -> Result<i64, SourceCause>
+fn number_in(
+    labels: &Labels<'_>,
+    form: Form,
+    index: u64,
+    value: Value<'_>,
+) -> Result<i64, SourceCause>
     requires { index ≤ 245760 }
     ensures value { result ≡ number_in (places_in labels.now) form index (value_seen value.entry) }
     ensures in_range { IfOk result (λ n. is_in_range form n ≡ true) }
@@ -327,7 +336,11 @@ fn word_by(mnemonic: Mnemonic, registers: Registers, number: i64) -> u32
 
 /// The word of the instruction at an index.
 #[tactic(auto, unfolding(crate::specs::Meaning::word_in))]
-pub(crate) fn word_in(labels: &Labels<'_>, index: u64, draft: &Draft<'_>) -> Result<u32, SourceCause>
+pub(crate) fn word_in(
+    labels: &Labels<'_>,
+    index: u64,
+    draft: &Draft<'_>,
+) -> Result<u32, SourceCause>
     requires { index ≤ 245760 }
     ensures { result ≡ word_in (places_in labels.now) index (draft_seen draft.now) }
 {

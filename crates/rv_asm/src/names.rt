@@ -209,10 +209,7 @@ fn ordering_in(text: &[u8]) -> Option<Ordering>
             aq: false,
             rl: true,
         }),
-        b".aqrl" => Some(Ordering {
-            aq: true,
-            rl: true,
-        }),
+        b".aqrl" => Some(Ordering { aq: true, rl: true }),
         _ => None,
     }
 }

@@ -149,7 +149,11 @@ fn small_number(word: &[u8]) -> Option<u8>
 {
     let (tens, rest) = word.split_first()?;
     let Some((ones, rest)) = rest.split_first() else {
-        return if is_digit(*tens) { Some(*tens - b'0') } else { None };
+        return if is_digit(*tens) {
+            Some(*tens - b'0')
+        } else {
+            None
+        };
     };
     if !rest.is_empty() {
         return None;

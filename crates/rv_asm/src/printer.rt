@@ -2,11 +2,13 @@
 //!
 //! The printer adds to one vector. After want of memory the text is dropped.
 
-ghost use Rattle.std.specs.Prelude.{◌≡◌, ◌++◌, ◌∷◌, [], ◌%◌, ◌^◌, OnOk, IfOk, codes, decimal};
+ghost use Rattle.std.specs.Prelude.{◌≡◌, ◌++◌, ◌∷◌, [], ◌%◌, ◌^◌, Ok, OnOk, IfOk, codes, decimal};
 ghost use Rattle.std.specs.Fmt.{signed_decimal};
 ghost use Rattle.rv_decode.specs.Words.{imm_word};
 ghost use Rattle.rv_asm.specs.Names.{form_of};
 ghost use Rattle.rv_asm.specs.Printed.{register_text, operands, tokens_text, blank_before, mnemonic_text, instr_text, word_text, printed};
+ghost use Rattle.rv_asm.specs.Laws.{IsProgram};
+ghost use Rattle.rv_asm.specs.Source.{assembled};
 
 use crate::NoMemory;
 use crate::form::{Form, form_of};
@@ -101,7 +103,9 @@ fn push_operands(text: &mut Vec<u8>, form: Form, instr: &Instr) -> Result<(), No
         Form::Branch => push_two(text, instr.rs1, instr.rs2, instr.imm),
         Form::Offset => push_offset(text, instr.rd, instr.imm, instr.rs1),
         Form::Store => push_offset(text, instr.rs2, instr.imm, instr.rs1),
-        Form::Immediate | Form::Shift | Form::ShiftWord => { push_two(text, instr.rd, instr.rs1, instr.imm) }
+        Form::Immediate | Form::Shift | Form::ShiftWord => {
+            push_two(text, instr.rd, instr.rs1, instr.imm)
+        }
         Form::Register => {
             push_first(text, instr.rd)?;
             push_first(text, instr.rs1)?;
@@ -171,9 +175,10 @@ fn push_word(text: &mut Vec<u8>, word: u32) -> Result<(), NoMemory>
     }
 }
 
-/// The text of words, a line for each: `assemble` gives these words back.
+/// The text of words, a line for each. Of 1 to 245,760 words it assembles to these words.
 pub fn print(alloc: Global, words: &[u32]) -> Result<Vec<u8>, NoMemory>
-    ensures { IfOk result (λ text. text.items ≡ printed words.now) }
+    ensures text { IfOk result (λ text. text.items ≡ printed words.now) }
+    ensures assembles { IfOk result (λ text. IsProgram words.now → assembled text.items ≡ Ok words.now) }
 {
     let mut text = Vec::new(alloc);
     for word in words {

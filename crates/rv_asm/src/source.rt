@@ -1,12 +1,14 @@
 //! From a source to its words.
 
-ghost use Rattle.std.specs.Prelude.{◌≡◌, ◌⊎◌, ◌<◌, ◌≤◌, ◌++◌, ◌∷◌, [], Ok, Err, OnOk, IfOk, IfSome};
+ghost use Rattle.std.specs.Prelude.{◌≡◌, ◌⊎◌, ◌<◌, ◌≤◌, ◌++◌, ◌∷◌, [], List, ℕ, Ok, Err, OnOk, IfOk, IfSome};
 ghost use Rattle.rv_asm.specs.declared.source.SourceFault.{SourceFault};
 ghost use Rattle.rv_asm.specs.declared.source.SourceFault.TheVariants.{Memory};
 ghost use Rattle.rv_asm.specs.Meaning.{word_in};
 ghost use Rattle.rv_asm.specs.Source.{drafted, is_twice, sized, line_word, assembled};
 ghost use Rattle.rv_asm.specs.Seen.{word_seen, some_parts_seen, draft_seen, option_draft_seen};
 ghost use Rattle.rv_asm.specs.Found.{places_in};
+ghost use Rattle.rv_asm.specs.Laws.{IsProgram};
+ghost use Rattle.rv_asm.specs.Printed.{printed};
 
 use crate::NoMemory;
 use crate::labels::{Labels, find_labels, place_of};
@@ -129,7 +131,12 @@ fn word_for(labels: &Labels<'_>, index: u64, draft: &Draft<'_>) -> Result<Option
 
 /// The word of a line, if it has an instruction.
 #[tactic(auto, unfolding(crate::specs::Source::line_word))]
-fn line_word(labels: &Labels<'_>, number: u64, index: u64, line: &[u8]) -> Result<Option<u32>, SourceCause>
+fn line_word(
+    labels: &Labels<'_>,
+    number: u64,
+    index: u64,
+    line: &[u8],
+) -> Result<Option<u32>, SourceCause>
     requires { index ≤ 245760 }
     ensures value { result ≡ line_word (places_in labels.now) number index line.now }
     ensures room { IfOk result (λ word. IfSome word (λ _. index < 245760)) }
@@ -160,6 +167,10 @@ fn push_word(words: &mut Vec<u32>, word: u32) -> Result<(), NoMemory>
 pub fn assemble(alloc: Global, text: &[u8]) -> Result<Words, SourceFault>
     ensures words { IfOk result (λ words. assembled text.now ≡ Ok words) }
     ensures refused { (fault : SourceFault) → result ≡ Err fault → (fault ≡ Memory) ⊎ (assembled text.now ≡ Err fault) }
+
+    // Of what is printed.
+    ensures printed { (ws : List ℕ) → IsProgram ws → text.now ≡ printed ws → IfOk result (λ words. words ≡ ws) }
+    ensures accepted { (ws : List ℕ) → IsProgram ws → text.now ≡ printed ws → (fault : SourceFault) → result ≡ Err fault → fault ≡ Memory }
 {
     let labels = find_labels(alloc, text)?;
     let mut words = Vec::new(alloc);

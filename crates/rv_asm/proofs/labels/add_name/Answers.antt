@@ -1,4 +1,4 @@
-use Rattle.std.proofs.Common.{sym, ℕ, List}
+use Rattle.std.proofs.Common.{sym}
 use Rattle.std.specs.Prelude.{Some}
 use Rattle.std.proofs.Math.Path.{◌∙◌}
 use Rattle.std.proofs.lemmas.Map.Text.{btree_map_updates_str}

@@ -1,4 +1,4 @@
-use Rattle.std.proofs.Common.{◌≡◌, ◌<◌, length, arith, sym, ap, ℕ}
+use Rattle.std.proofs.Common.{◌≡◌, ◌<◌, length, arith, sym, ap}
 use Rattle.std.proofs.Math.Path.{◌∙◌}
 use Rattle.std.proofs.lemmas.Bool.Decides.{nat_tests}
 use Rattle.rv_asm.specs.Syntax.{lexed, tokens_of}
