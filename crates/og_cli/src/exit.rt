@@ -2,9 +2,13 @@
 
 ghost use Rattle.std.specs.Prelude.{◌≡◌};
 
+use og_elf::ElfCause;
+
 /// Why an image isn't run.
 #[derive(Clone, Copy, PartialEq, Eq, Debug)]
 pub enum ImageFault {
+    /// An ELF file with this fault, at this offset.
+    Elf { cause: ElfCause, at: u64 },
     /// A raw file that is no program.
     Raw,
     /// More data and stack pages than frames.

@@ -1,8 +1,9 @@
 //! Examples compared with what is stored of them.
 //!
 //! Below stands the command; above stand programs that name examples. Of an example there are the files
-//! `NAME.hex`, its source with comments, `NAME.raw`, the image, and `NAME.out`, the text. It is run
-//! through the command, and what is found is written, a line for each example. Reading the files and the
+//! `NAME.hex`, its bytes with comments, `NAME.raw`, the image, and `NAME.out`, the text. An example that is
+//! named as `NAME.elf` has its image in that file, in ELF. It is run through the command, and what is found
+//! is written, a line for each example. Reading the files and the
 //! source has no contract; what is found of them has (`compare`).
 #![tactic(auto)]
 
@@ -52,13 +53,17 @@ pub fn check_arguments(rt: &HostRuntime) -> io::Result<bool> {
 /// Reads an example's files, runs its image, and compares.
 fn check(rt: &HostRuntime, name: &str) -> io::Result<Finding> {
     let alloc = rt.alloc();
-    let file = format!(in alloc; "{name}.raw")?;
-    let source = fs::read_to_string(rt, format!(in alloc; "{name}.hex")?.as_str())?;
+    let (stem, ending) = match name.split_once('.') {
+        Some((stem, ending)) => (stem, ending),
+        None => (name, "raw"),
+    };
+    let file = format!(in alloc; "{stem}.{ending}")?;
+    let source = fs::read_to_string(rt, format!(in alloc; "{stem}.hex")?.as_str())?;
     let image = fs::read(rt, file.as_str())?;
-    let text = fs::read(rt, format!(in alloc; "{name}.out")?.as_str())?;
+    let text = fs::read(rt, format!(in alloc; "{stem}.out")?.as_str())?;
     let bytes = bytes_of(alloc, source.as_str())?;
     let mut out = MemorySink::make(alloc, 65_536, Vec::new(alloc));
-    let exit = run(rt, file, &mut out)?;
+    let exit = run(rt, file, ending == "raw", &mut out)?;
     Ok(compare(&bytes, &image, exit, out.held(), &text))
 }
 
@@ -81,12 +86,13 @@ pub fn compare(bytes: &[u8], image: &[u8], exit: Exit, printed: &[u8], text: &[u
     }
 }
 
-/// Runs an image.
-fn run(rt: &HostRuntime, image: String, out: &mut MemorySink) -> io::Result<Exit> {
+/// Runs an image, a raw one or one in ELF.
+fn run(rt: &HostRuntime, image: String, is_raw: bool, out: &mut MemorySink) -> io::Result<Exit> {
     let alloc = rt.alloc();
-    let command = String::from_str(alloc, "simulate")?;
-    let raw = String::from_str(alloc, "--raw")?;
-    let words = vec![in alloc; command, image, raw]?;
+    let mut words = vec![in alloc; String::from_str(alloc, "simulate")?, image]?;
+    if is_raw {
+        words.push(String::from_str(alloc, "--raw")?)?;
+    }
     let mut shelf = FileShelf::make(rt, alloc);
     let mut err = MemorySink::make(alloc, 65_536, Vec::new(alloc));
     Ok(origin_alone(alloc, &words, &mut shelf, out, &mut err))

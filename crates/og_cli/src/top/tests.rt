@@ -100,6 +100,13 @@ fn a_run_prints_its_text(rt: HostRuntime) -> Result<(), Fail> {
             at 5 0 store 0000000000100000 4 000000000000002a\nlimit 5 1\n",
         ),
         ("simulate store.raw --events 9 --raw", 0, TEXT),
+        ("simulate --raw --nodes=1 store.raw", 0, TEXT),
+        ("simulate store.raw --draw 7 --raw", 0, TEXT),
+        (
+            "simulate store.raw --raw --frames=2 --sets 1 --instructions=0",
+            0,
+            b"origin 2 1 2 1 2 8 0 64 32 4 1024\nact 0\nat 1 0 spent\nquiet 1 0\n",
+        ),
         (
             "simulate store.raw --instructions 0 --raw",
             0,
@@ -194,8 +201,11 @@ fn a_refusal_is_one_line(rt: HostRuntime) -> Result<(), Fail> {
         ("simulate store.raw --raw --raw", 2, b"origin: words\n"),
         ("simulate -- store.raw", 2, b"origin: words\n"),
         ("replay store.raw", 2, b"origin: words\n"),
-        ("simulate store.raw", 9, b"origin: not built\n"),
-        ("simulate missing", 9, b"origin: not built\n"),
+        ("run store.raw --raw", 2, b"origin: words\n"),
+        ("simulate store.raw", 4, b"origin: image NotElf at 0\n"),
+        ("simulate missing", 1, b"origin: cannot read missing\n"),
+        ("replay store.raw missing --raw", 9, b"origin: not built\n"),
+        ("storm 7 --loops 1", 9, b"origin: not built\n"),
         (
             "simulate store.raw --raw --nodes 2",
             9,
@@ -291,6 +301,91 @@ fn program_with_pages(alloc: Global, pages: usize) -> Result<Vec<u8>, Fail> {
     Ok(bytes)
 }
 
+// An ELF file with one program header at 64 and its contents at 120: two instructions at 0x10000, which exit
+// with 0.
+const ELF: &[u8] = b"\x7fELF\x02\x01\x01\x00\x00\x00\x00\x00\x00\x00\x00\x00\
+    \x02\x00\xf3\x00\x01\x00\x00\x00\x00\x00\x01\x00\x00\x00\x00\x00\
+    \x40\x00\x00\x00\x00\x00\x00\x00\x00\x00\x00\x00\x00\x00\x00\x00\
+    \x00\x00\x00\x00\x40\x00\x38\x00\x01\x00\x00\x00\x00\x00\x00\x00\
+    \x01\x00\x00\x00\x05\x00\x00\x00\x78\x00\x00\x00\x00\x00\x00\x00\
+    \x00\x00\x01\x00\x00\x00\x00\x00\x00\x00\x01\x00\x00\x00\x00\x00\
+    \x08\x00\x00\x00\x00\x00\x00\x00\x08\x00\x00\x00\x00\x00\x00\x00\
+    \x04\x00\x00\x00\x00\x00\x00\x00\
+    \x93\x08\xd0\x05\x73\x00\x00\x00";
+
+// The first bytes of the file, with a number of eight bytes at most written into it.
+fn elf_with(
+    alloc: Global,
+    length: usize,
+    at: usize,
+    count: usize,
+    value: u64,
+) -> Result<Vec<u8>, Fail> {
+    let mut bytes = Vec::new(alloc);
+    let new = value.to_le_bytes();
+    for (i, byte) in ELF.iter().take(length).enumerate() {
+        let place = i.wrapping_sub(at);
+        let byte = if place < count {
+            new.get(place).copied().unwrap_or(0)
+        } else {
+            *byte
+        };
+        bytes.push(byte)?;
+    }
+    Ok(bytes)
+}
+
+/// Without `--raw` the file is read as ELF. It is run, or its first fault is told with its offset.
+#[test]
+fn a_file_may_be_elf(rt: HostRuntime) -> Result<(), Fail> {
+    let table: &[(usize, usize, usize, u64, u8, &[u8])] = &[
+        (128, 0, 0, 0, 0, b""),
+        (63, 0, 0, 0, 4, b"origin: image NotElf at 0\n"),
+        (64, 0, 0, 0, 4, b"origin: image HeaderOut at 32\n"),
+        (120, 0, 0, 0, 4, b"origin: image SegmentOut at 64\n"),
+        (128, 4, 1, 1, 4, b"origin: image NotClass64 at 4\n"),
+        (128, 5, 1, 2, 4, b"origin: image NotLittle at 5\n"),
+        (128, 16, 2, 3, 4, b"origin: image NotExec at 16\n"),
+        (128, 18, 2, 62, 4, b"origin: image NotRiscv at 18\n"),
+        (128, 24, 8, 65_538, 4, b"origin: image NoEntry at 24\n"),
+        (128, 32, 8, u64::MAX, 4, b"origin: image HeaderOut at 32\n"),
+        (128, 54, 2, 55, 4, b"origin: image HeaderOut at 54\n"),
+        (128, 54, 4, 0, 4, b"origin: image NoEntry at 24\n"),
+        (128, 68, 4, 7, 4, b"origin: image WritableText at 64\n"),
+        (128, 72, 8, u64::MAX, 4, b"origin: image SegmentOut at 64\n"),
+        (
+            128,
+            80,
+            8,
+            u64::MAX - 4095,
+            4,
+            b"origin: image SegmentOut at 64\n",
+        ),
+        (
+            128,
+            104,
+            8,
+            0x120_0000,
+            4,
+            b"origin: image TooLarge at 64\n",
+        ),
+    ];
+    for (length, at, count, value, status, err) in table {
+        let bytes = elf_with(rt.alloc(), *length, *at, *count, *value)?;
+        let answer = answer_to(rt.alloc(), "simulate store.raw", &bytes)?;
+        assert_eq!(rt; answer.status, *status, "{length} {at}");
+        assert_eq!(rt; answer.err.held(), *err, "{length} {at}");
+        let printed = answer.out.held();
+        let text: &[u8] = if *status == 0 {
+            b"origin 2 1 64 64 2 8 1000000 64 32 4 1024\nact 0\nact 0\nat 2 0 exit 0000000000000000\nquiet 2 0\n"
+        } else {
+            b""
+        };
+        assert_eq!(rt; printed, text, "{length} {at}");
+    }
+    Ok(())
+}
+
 /// A machine of 64 frames runs a program of 63 data pages and a stack page, and no larger one.
 #[test]
 fn a_program_may_need_more_frames(rt: HostRuntime) -> Result<(), Fail> {
@@ -374,7 +469,8 @@ fn an_untold_line_changes_no_status(rt: HostRuntime) -> Result<(), Fail> {
     let alloc = rt.alloc();
     let table: &[(&str, u8)] = &[
         ("simulate", 2),
-        ("simulate store.raw", 9),
+        ("simulate store.raw", 4),
+        ("storm 7", 9),
         ("simulate missing --raw", 1),
         ("simulate store.raw --raw", 14),
     ];

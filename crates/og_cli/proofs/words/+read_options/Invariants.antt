@@ -1,6 +1,0 @@
--- Each call has fewer words.
-use Rattle.std.proofs.Common.{length}
-use Rattle.og_cli.proofs.words.+read_options.Given as goal
-
-abbrev pub decreases-read_options : goal.decreases-read_options
-decreases-read_options l = length l.words.now
