@@ -1,5 +1,6 @@
 pub mod Assembly
 pub mod Decoded
+pub mod Encoded
 pub mod Mnemonics
 pub mod Numbers
 pub mod Places
