@@ -260,7 +260,7 @@ pub whole_run : {A K N : Type 0} → (r : Rules A K N) (f : ℕ → A) (stopped 
 whole_run {A} {K} {N} r f stopped turns rounds actors end os qs zs xs ls es left h same back size ne after consistent flies logs sorted w begin seats =
     let order : IsSorted (joined (logs_of (views_of xs))) es = subst (λ (l : List (List (Event N))). IsSorted (joined l) es) logs sorted in
     let m : Merges r w stopped zs es left = merges r f stopped zs es left w begin (omega (arith, size, seats)) h
-        (subst (λ (l : List (Closed K N)). ConsistentViews (views_of l)) same consistent)
-        (subst (λ (l : List (Closed K N)). AreLeft (views_of l) left) same flies)
-        (subst (λ (l : List (Closed K N)). IsSorted (joined (logs_of (views_of l))) es) same order) in
+    (subst (λ (l : List (Closed K N)). ConsistentViews (views_of l)) same consistent)
+    (subst (λ (l : List (Closed K N)). AreLeft (views_of l) left) same flies)
+    (subst (λ (l : List (Closed K N)). IsSorted (joined (logs_of (views_of l))) es) same order) in
     (m.world, m.runs, m.flight, as_ended r stopped turns rounds end os qs m.world.seats ne after (m.done ∙ ap (λ (l : List (Playing A K N)). all_stopped stopped l) back))
