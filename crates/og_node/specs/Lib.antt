@@ -1,2 +1,4 @@
 pub mod Node
 pub mod Kept
+pub mod Rows
+pub mod Laws

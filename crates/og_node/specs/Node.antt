@@ -1,10 +1,9 @@
 -- A node: a processor and a home part. What it does of itself is its processor's; a message is served by the one or the other,
 -- by its kind.
-use Rattle.std.specs.Prelude.{◌≡◌, ℕ, ◌<◌, ◌≤◌, Bool, true, false, MatchBool, Option, None, Some, Result, Ok, Err}
+use Rattle.std.specs.Prelude.{◌≡◌, ℕ, ◌<◌, ◌≤◌, Bool, true, false, MatchBool, Option, None, Some}
 use Rattle.og_base.specs.declared.Block.{Block}
 use Rattle.og_base.specs.declared.Frame.{Frame}
 use Rattle.og_base.specs.declared.Settings.{Settings}
-use Rattle.og_base.specs.declared.NotEnabled.{NotEnabled}
 use Rattle.og_runs.specs.Runs.{Outcome}
 use Rattle.og_runs.specs.declared.Msg.{Msg}
 use Rattle.og_msg.specs.declared.Kind.{Kind}
@@ -17,7 +16,7 @@ use Rattle.og_directory.specs.Table.{IsFromItsSender}
 use Rattle.og_home.specs.Home.{HomeState, Served, serve, HasRow as HasHomeRow}
 use Rattle.og_home.specs.Start.{start_home}
 use Rattle.og_processor.specs.State.{ProcessorState, Given, new_processor}
-use Rattle.og_processor.specs.Act.{may_act, act_of as processor_act}
+use Rattle.og_processor.specs.Act.{act_of as processor_act}
 use Rattle.og_processor.specs.Take.{take_of as processor_take}
 use Rattle.og_processor.specs.Rows.{has_row_for}
 

@@ -14,6 +14,8 @@ ghost use Rattle.og_node.specs.Node.{new_node, act_of as node_act, take_of as no
 ghost use Rattle.og_processor.specs.Act.{may_act};
 ghost use Rattle.og_processor.specs.Sound.{IsSound, IsLowProcessor, IsLowKind};
 
+pub mod laws;
+
 use og_base::{NoMemory, NodeId, NotEnabled, Settings};
 use og_home::Home;
 use og_image::{Image, Layout};

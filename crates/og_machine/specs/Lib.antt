@@ -1,0 +1,5 @@
+pub mod Machine
+pub mod Choices
+pub mod Held
+pub mod OneWriter
+pub mod Laws
