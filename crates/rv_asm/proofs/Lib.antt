@@ -1,5 +1,6 @@
 pub mod Assembly
 pub mod Decoded
+pub mod Decoding
 pub mod Encoded
 pub mod Mnemonics
 pub mod Numbers
