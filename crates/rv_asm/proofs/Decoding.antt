@@ -1,7 +1,7 @@
 -- Format by format, the word of an instruction decodes to that instruction.
 use Rattle.std.specs.Prelude.{ℤ, pos, negsuc, ◌-ℤ◌, int_le}
 use Rattle.std.specs.Int.{w64, cast_unsigned, from_bool}
-use Rattle.std.proofs.Common.{◌≡◌, ℕ, ◌+◌, ◌-◌, ◌*◌, ◌/◌, ◌%◌, ◌^◌, ◌<◌, ◌≤◌, ◌==◌, ◌&&◌, ◌||◌, Bool, true, false, cond, nat_lt, arith, refl, sym, ap, ap₂, subst, Option, None, Some, eqb-true}
+use Rattle.std.proofs.Common.{◌≡◌, ℕ, ◌+◌, ◌-◌, ◌*◌, ◌/◌, ◌%◌, ◌^◌, ◌<◌, ◌==◌, ◌&&◌, Bool, true, false, nat_lt, arith, refl, ap, ap₂, subst, Option, Some, eqb-true}
 use Rattle.std.proofs.Math.Path.{◌∙◌}
 use Rattle.std.proofs.lemmas.Bool.Decides.{nat_tests}
 use Rattle.std.proofs.lemmas.Int.{ints}
@@ -11,13 +11,13 @@ use Rattle.rv_decode.specs.declared.Instr.{Instr}
 use Rattle.rv_decode.specs.declared.Row.{Row}
 use Rattle.rv_decode.specs.declared.Format.{Format}
 use Rattle.rv_decode.specs.declared.Format.TheVariants.{Register as RegisterFormat, Immediate as ImmediateFormat, Shift as ShiftFormat, ShiftWord as ShiftWordFormat, Store as StoreFormat, Branch as BranchFormat, Upper as UpperFormat, Jump as JumpFormat, Whole as WholeFormat, Reserve as ReserveFormat, Atomic as AtomicFormat}
-use Rattle.rv_decode.specs.Fields.{bits_of, sign_extended, opcode_of, rd_of, funct3_of, rs1_of, rs2_of, funct5_of, funct6_of, funct7_of}
+use Rattle.rv_decode.specs.Fields.{bits_of, sign_extended, opcode_of}
 use Rattle.rv_decode.specs.Rows.{fits, has_fields, operands_of, read_by, decode_of}
-use Rattle.rv_decode.specs.Words.{row_of, imm_word, above_of, above_from, word_of, encode_of}
+use Rattle.rv_decode.specs.Words.{row_of, above_from, word_of, encode_of}
 use Rattle.rv_asm.proofs.Encoded.{IsRow, row_small, fitting, register_fields, immediate_fields, shift_fields, shift_word_fields, store_fields, branch_fields, upper_fields, jump_fields, whole_fields, atomic_fields, reserve_fields, low_12}
 use Rattle.rv_asm.specs.Meaning.{is_even}
 
-instr : Op → ℕ → ℕ → ℕ → ℤ → Bool → Bool → Instr
+unfoldable pub instr : Op → ℕ → ℕ → ℕ → ℤ → Bool → Bool → Instr
 instr op rd rs1 rs2 imm aq rl = record { op = op; rd = rd; rs1 = rs1; rs2 = rs2; imm = imm; aq = aq; rl = rl }
 
 name_is : (op : Op) → (row_of op).name ≡ op
@@ -43,10 +43,10 @@ equal a b h = grind (arith, nat_tests)
 made : (op : Op) (rd rs1 rs2 rd' rs1' rs2' : ℕ) (imm imm' : ℤ) (aq aq' rl rl' : Bool) → rd ≡ rd' → rs1 ≡ rs1' → rs2 ≡ rs2' → imm ≡ imm' → aq ≡ aq' → rl ≡ rl' → instr op rd rs1 rs2 imm aq rl ≡ instr op rd' rs1' rs2' imm' aq' rl'
 made op rd rs1 rs2 rd' rs1' rs2' imm imm' aq aq' rl rl' a b c d e f = cc
 
-abbrev Decodes : Instr → Type 0
+abbrev pub Decodes : Instr → Type 0
 Decodes i = decode_of (encode_of i) ≡ Some i
 
-register_decodes : (op : Op) (rd rs1 rs2 : ℕ) → (row_of op).format ≡ RegisterFormat → rd < 32 → rs1 < 32 → rs2 < 32 → Decodes (instr op rd rs1 rs2 (pos 0) false false)
+pub register_decodes : (op : Op) (rd rs1 rs2 : ℕ) → (row_of op).format ≡ RegisterFormat → rd < 32 → rs1 < 32 → rs2 < 32 → Decodes (instr op rd rs1 rs2 (pos 0) false false)
 unfolding instr
 register_decodes op rd rs1 rs2 is hd h1 h2 =
     let r : Row = row_of op in
@@ -55,7 +55,7 @@ register_decodes op rd rs1 rs2 is hd h1 h2 =
     let f = register_fields r.opcode r.funct3 rd rs1 rs2 r.above s.opcode s.funct3 hd h1 h2 above in
     by_row op RegisterFormat (instr op rd rs1 rs2 (pos 0) false false) refl is f.0 (rw (equal _ _ f.2, equal _ _ f.5) refl) (made op _ _ _ rd rs1 rs2 _ (pos 0) _ false _ false f.1 f.3 f.4 refl refl refl)
 
-immediate_decodes : (op : Op) (rd rs1 : ℕ) (n : ℤ) → (row_of op).format ≡ ImmediateFormat → rd < 32 → rs1 < 32 → int_le (negsuc 2047) n ≡ true → int_le n (pos 2047) ≡ true → Decodes (instr op rd rs1 0 n false false)
+pub immediate_decodes : (op : Op) (rd rs1 : ℕ) (n : ℤ) → (row_of op).format ≡ ImmediateFormat → rd < 32 → rs1 < 32 → int_le (negsuc 2047) n ≡ true → int_le n (pos 2047) ≡ true → Decodes (instr op rd rs1 0 n false false)
 unfolding instr
 immediate_decodes op rd rs1 n is hd h1 low high =
     let r : Row = row_of op in
@@ -66,7 +66,7 @@ immediate_decodes op rd rs1 n is hd h1 low high =
     let imm = ap (sign_extended 12) (f.4 ∙ whole) ∙ low_12 n low high in
     by_row op ImmediateFormat (instr op rd rs1 0 n false false) refl is f.0 (rw (equal _ _ f.2) refl) (made op _ _ 0 rd rs1 0 _ n _ false _ false f.1 f.3 refl imm refl refl)
 
-shift_decodes : (op : Op) (rd rs1 n : ℕ) → (row_of op).format ≡ ShiftFormat → rd < 32 → rs1 < 32 → n < 64 → Decodes (instr op rd rs1 0 (pos n) false false)
+pub shift_decodes : (op : Op) (rd rs1 n : ℕ) → (row_of op).format ≡ ShiftFormat → rd < 32 → rs1 < 32 → n < 64 → Decodes (instr op rd rs1 0 (pos n) false false)
 unfolding instr
 shift_decodes op rd rs1 n is hd h1 small =
     let r : Row = row_of op in
@@ -78,7 +78,7 @@ shift_decodes op rd rs1 n is hd h1 small =
     let imm = ap pos (f.4 ∙ same) in
     by_row op ShiftFormat (instr op rd rs1 0 (pos n) false false) refl is f.0 (rw (equal _ _ f.2, equal _ _ f.5) refl) (made op _ _ 0 rd rs1 0 _ (pos n) _ false _ false f.1 f.3 refl imm refl refl)
 
-shift_word_decodes : (op : Op) (rd rs1 n : ℕ) → (row_of op).format ≡ ShiftWordFormat → rd < 32 → rs1 < 32 → n < 32 → Decodes (instr op rd rs1 0 (pos n) false false)
+pub shift_word_decodes : (op : Op) (rd rs1 n : ℕ) → (row_of op).format ≡ ShiftWordFormat → rd < 32 → rs1 < 32 → n < 32 → Decodes (instr op rd rs1 0 (pos n) false false)
 unfolding instr
 shift_word_decodes op rd rs1 n is hd h1 small =
     let r : Row = row_of op in
@@ -90,7 +90,7 @@ shift_word_decodes op rd rs1 n is hd h1 small =
     let imm = ap pos (f.4 ∙ same) in
     by_row op ShiftWordFormat (instr op rd rs1 0 (pos n) false false) refl is f.0 (rw (equal _ _ f.2, equal _ _ f.5) refl) (made op _ _ 0 rd rs1 0 _ (pos n) _ false _ false f.1 f.3 refl imm refl refl)
 
-store_decodes : (op : Op) (rs1 rs2 : ℕ) (n : ℤ) → (row_of op).format ≡ StoreFormat → rs1 < 32 → rs2 < 32 → int_le (negsuc 2047) n ≡ true → int_le n (pos 2047) ≡ true → Decodes (instr op 0 rs1 rs2 n false false)
+pub store_decodes : (op : Op) (rs1 rs2 : ℕ) (n : ℤ) → (row_of op).format ≡ StoreFormat → rs1 < 32 → rs2 < 32 → int_le (negsuc 2047) n ≡ true → int_le n (pos 2047) ≡ true → Decodes (instr op 0 rs1 rs2 n false false)
 unfolding instr
 store_decodes op rs1 rs2 n is h1 h2 low high =
     let r : Row = row_of op in
@@ -116,7 +116,7 @@ low_13 (negsuc n) lo hi even =
     let e : n % 2 ≡ 1 = eqb-true (n % 2) 1 even in
     (rw (same, test) is, omega arith)
 
-branch_decodes : (op : Op) (rs1 rs2 : ℕ) (n : ℤ) → (row_of op).format ≡ BranchFormat → rs1 < 32 → rs2 < 32 → int_le (negsuc 4095) n ≡ true → int_le n (pos 4094) ≡ true → is_even n ≡ true → Decodes (instr op 0 rs1 rs2 n false false)
+pub branch_decodes : (op : Op) (rs1 rs2 : ℕ) (n : ℤ) → (row_of op).format ≡ BranchFormat → rs1 < 32 → rs2 < 32 → int_le (negsuc 4095) n ≡ true → int_le n (pos 4094) ≡ true → is_even n ≡ true → Decodes (instr op 0 rs1 rs2 n false false)
 unfolding instr
 branch_decodes op rs1 rs2 n is h1 h2 low high even =
     let r : Row = row_of op in
@@ -126,7 +126,7 @@ branch_decodes op rs1 rs2 n is h1 h2 low high even =
     let f = branch_fields r.opcode r.funct3 rs1 rs2 (bits_of word 11 1) (bits_of word 1 4) (bits_of word 5 6) (bits_of word 12 1) s.opcode s.funct3 h1 h2 (omega arith) (omega arith) (omega arith) (omega arith) in
     let whole : bits_of word 12 1 * 2 ^ 12 + bits_of word 11 1 * 2 ^ 11 + bits_of word 5 6 * 2 ^ 5 + bits_of word 1 4 * 2 ≡ word % 2 ^ 13 = omega (arith, back.1) in
     let imm = ap₂ (λ (a b : ℕ). sign_extended 13 (a * 2 ^ 12 + b * 2 ^ 11 + bits_of (word_of BranchFormat r (instr op 0 rs1 rs2 n false false)) 25 6 * 2 ^ 5 + bits_of (word_of BranchFormat r (instr op 0 rs1 rs2 n false false)) 8 4 * 2)) f.7 f.4 ∙
-        (ap₂ (λ (c d : ℕ). sign_extended 13 (bits_of word 12 1 * 2 ^ 12 + bits_of word 11 1 * 2 ^ 11 + c * 2 ^ 5 + d * 2)) f.6 f.5 ∙ (ap (sign_extended 13) whole ∙ back.0)) in
+    (ap₂ (λ (c d : ℕ). sign_extended 13 (bits_of word 12 1 * 2 ^ 12 + bits_of word 11 1 * 2 ^ 11 + c * 2 ^ 5 + d * 2)) f.6 f.5 ∙ (ap (sign_extended 13) whole ∙ back.0)) in
     by_row op BranchFormat (instr op 0 rs1 rs2 n false false) refl is f.0 (rw (equal _ _ f.1) refl) (made op 0 _ _ 0 rs1 rs2 _ n _ false _ false refl f.2 f.3 imm refl refl)
 
 low_21 : (n : ℤ) → int_le (negsuc 1048575) n ≡ true → int_le n (pos 1048574) ≡ true → is_even n ≡ true → (sign_extended 21 (cast_unsigned w64 n % 2 ^ 32 % 2 ^ 21) ≡ n) × (cast_unsigned w64 n % 2 ^ 32 % 2 ≡ 0)
@@ -144,7 +144,7 @@ low_21 (negsuc n) lo hi even =
     let e : n % 2 ≡ 1 = eqb-true (n % 2) 1 even in
     (rw (same, test) is, omega arith)
 
-jump_decodes : (op : Op) (rd : ℕ) (n : ℤ) → (row_of op).format ≡ JumpFormat → rd < 32 → int_le (negsuc 1048575) n ≡ true → int_le n (pos 1048574) ≡ true → is_even n ≡ true → Decodes (instr op rd 0 0 n false false)
+pub jump_decodes : (op : Op) (rd : ℕ) (n : ℤ) → (row_of op).format ≡ JumpFormat → rd < 32 → int_le (negsuc 1048575) n ≡ true → int_le n (pos 1048574) ≡ true → is_even n ≡ true → Decodes (instr op rd 0 0 n false false)
 unfolding instr
 jump_decodes op rd n is hd low high even =
     let r : Row = row_of op in
@@ -155,10 +155,10 @@ jump_decodes op rd n is hd low high even =
     let f = jump_fields r.opcode rd (bits_of word 12 8) (bits_of word 11 1) (bits_of word 1 10) (bits_of word 20 1) s.opcode hd (omega arith) (omega arith) (omega arith) (omega arith) in
     let whole : bits_of word 20 1 * 2 ^ 20 + bits_of word 12 8 * 2 ^ 12 + bits_of word 11 1 * 2 ^ 11 + bits_of word 1 10 * 2 ≡ word % 2 ^ 21 = omega (arith, back.1) in
     let imm = ap₂ (λ (a b : ℕ). sign_extended 21 (a * 2 ^ 20 + b * 2 ^ 12 + bits_of w 20 1 * 2 ^ 11 + bits_of w 21 10 * 2)) f.5 f.2 ∙
-        (ap₂ (λ (c d : ℕ). sign_extended 21 (bits_of word 20 1 * 2 ^ 20 + bits_of word 12 8 * 2 ^ 12 + c * 2 ^ 11 + d * 2)) f.3 f.4 ∙ (ap (sign_extended 21) whole ∙ back.0)) in
+    (ap₂ (λ (c d : ℕ). sign_extended 21 (bits_of word 20 1 * 2 ^ 20 + bits_of word 12 8 * 2 ^ 12 + c * 2 ^ 11 + d * 2)) f.3 f.4 ∙ (ap (sign_extended 21) whole ∙ back.0)) in
     by_row op JumpFormat (instr op rd 0 0 n false false) refl is f.0 refl (made op _ 0 0 rd 0 0 _ n _ false _ false f.1 refl refl imm refl refl)
 
-upper_decodes : (op : Op) (rd y : ℕ) → (row_of op).format ≡ UpperFormat → rd < 32 → y < 2 ^ 20 → cast_unsigned w64 (sign_extended 32 (y * 2 ^ 12)) % 2 ^ 32 / 2 ^ 12 ≡ y → Decodes (instr op rd 0 0 (sign_extended 32 (y * 2 ^ 12)) false false)
+pub upper_decodes : (op : Op) (rd y : ℕ) → (row_of op).format ≡ UpperFormat → rd < 32 → y < 2 ^ 20 → cast_unsigned w64 (sign_extended 32 (y * 2 ^ 12)) % 2 ^ 32 / 2 ^ 12 ≡ y → Decodes (instr op rd 0 0 (sign_extended 32 (y * 2 ^ 12)) false false)
 unfolding instr
 upper_decodes op rd y is hd small back =
     let r : Row = row_of op in
@@ -169,7 +169,7 @@ upper_decodes op rd y is hd small back =
     let imm = ap (λ (m : ℕ). sign_extended 32 (m * 2 ^ 12)) (f.2 ∙ whole) in
     by_row op UpperFormat (instr op rd 0 0 (sign_extended 32 (y * 2 ^ 12)) false false) refl is f.0 refl (made op _ 0 0 rd 0 0 _ _ _ false _ false f.1 refl refl imm refl refl)
 
-whole_decodes : (op : Op) → (row_of op).format ≡ WholeFormat → Decodes (instr op 0 0 0 (pos 0) false false)
+pub whole_decodes : (op : Op) → (row_of op).format ≡ WholeFormat → Decodes (instr op 0 0 0 (pos 0) false false)
 unfolding instr
 whole_decodes op is =
     let r : Row = row_of op in
@@ -182,7 +182,7 @@ bit : (b : Bool) → (from_bool b < 2) × ((from_bool b == 1) ≡ b)
 bit true = (omega arith, refl)
 bit false = (omega arith, refl)
 
-atomic_decodes : (op : Op) (rd rs1 rs2 : ℕ) (aq rl : Bool) → (row_of op).format ≡ AtomicFormat → rd < 32 → rs1 < 32 → rs2 < 32 → Decodes (instr op rd rs1 rs2 (pos 0) aq rl)
+pub atomic_decodes : (op : Op) (rd rs1 rs2 : ℕ) (aq rl : Bool) → (row_of op).format ≡ AtomicFormat → rd < 32 → rs1 < 32 → rs2 < 32 → Decodes (instr op rd rs1 rs2 (pos 0) aq rl)
 unfolding instr
 atomic_decodes op rd rs1 rs2 aq rl is hd h1 h2 =
     let r : Row = row_of op in
@@ -193,7 +193,7 @@ atomic_decodes op rd rs1 rs2 aq rl is hd h1 h2 =
     let l = ap (λ (m : ℕ). m == 1) f.6 ∙ (bit rl).1 in
     by_row op AtomicFormat (instr op rd rs1 rs2 (pos 0) aq rl) refl is f.0 (rw (equal _ _ f.2, equal _ _ f.7) refl) (made op _ _ _ rd rs1 rs2 (pos 0) (pos 0) _ aq _ rl f.1 f.3 f.4 refl q l)
 
-reserve_decodes : (op : Op) (rd rs1 : ℕ) (aq rl : Bool) → (row_of op).format ≡ ReserveFormat → rd < 32 → rs1 < 32 → Decodes (instr op rd rs1 0 (pos 0) aq rl)
+pub reserve_decodes : (op : Op) (rd rs1 : ℕ) (aq rl : Bool) → (row_of op).format ≡ ReserveFormat → rd < 32 → rs1 < 32 → Decodes (instr op rd rs1 0 (pos 0) aq rl)
 unfolding instr
 reserve_decodes op rd rs1 aq rl is hd h1 =
     let r : Row = row_of op in

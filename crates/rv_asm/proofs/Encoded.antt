@@ -1,22 +1,18 @@
 -- The word of an instruction decodes to it: its fields are the row's, and no other row has them.
 use Rattle.std.specs.Prelude.{ℤ, pos, negsuc, ◌-ℤ◌, int_le}
-use Rattle.std.specs.Int.{w64, cast_unsigned, from_bool}
+use Rattle.std.specs.Int.{w64, cast_unsigned}
 use Rattle.std.specs.List.{find, filter}
 use Rattle.std.specs.Option.{option_map}
-use Rattle.std.proofs.Common.{◌≡◌, ℕ, zero, suc, ◌+◌, ◌-◌, ◌*◌, ◌/◌, ◌%◌, ◌^◌, ◌<◌, ◌≤◌, ◌==◌, ◌&&◌, ◌⊎◌, Bool, true, false, cond, nat_lt, List, [], ◌∷◌, map, length, arith, refl, sym, ap, subst, Option, None, Some, inl, inr}
+use Rattle.std.proofs.Common.{◌≡◌, ℕ, zero, suc, ◌+◌, ◌-◌, ◌*◌, ◌%◌, ◌^◌, ◌<◌, ◌≤◌, ◌⊎◌, Bool, true, false, cond, nat_lt, List, [], ◌∷◌, map, length, arith, refl, sym, ap, subst, Option, None, Some, inl, inr}
 use Rattle.std.proofs.Math.Path.{◌∙◌}
-use Rattle.std.proofs.lemmas.Bool.{cases_lt}
 use Rattle.std.proofs.lemmas.Bool.Decides.{nat_tests}
 use Rattle.std.proofs.lemmas.Int.{ints}
 use Rattle.rv_decode.specs.declared.Op.{Op}
 use Rattle.rv_decode.specs.declared.Op.TheVariants.{Lui, Auipc, Jal, Jalr, Beq, Bne, Blt, Bge, Bltu, Bgeu, Lb, Lh, Lw, Ld, Lbu, Lhu, Lwu, Sb, Sh, Sw, Sd, Addi, Slti, Sltiu, Xori, Ori, Andi, Slli, Srli, Srai, Add, Sll, Slt, Sltu, Xor, Srl, Or, And, Sub, Sra, Addiw, Slliw, Srliw, Sraiw, Addw, Sllw, Srlw, Subw, Sraw, Fence, Ecall, Ebreak, LrW, LrD, ScW, AmoswapW, AmoaddW, AmoxorW, AmoandW, AmoorW, AmominW, AmomaxW, AmominuW, AmomaxuW, ScD, AmoswapD, AmoaddD, AmoxorD, AmoandD, AmoorD, AmominD, AmomaxD, AmominuD, AmomaxuD}
-use Rattle.rv_decode.specs.declared.Instr.{Instr}
 use Rattle.rv_decode.specs.declared.Row.{Row}
-use Rattle.rv_decode.specs.declared.Format.{Format}
-use Rattle.rv_decode.specs.declared.Format.TheVariants.{Register as RegisterFormat, Immediate as ImmediateFormat, Shift as ShiftFormat, ShiftWord as ShiftWordFormat, Store as StoreFormat, Branch as BranchFormat, Upper as UpperFormat, Jump as JumpFormat, Whole as WholeFormat, Reserve as ReserveFormat, Atomic as AtomicFormat}
 use Rattle.rv_decode.specs.Fields.{bits_of, sign_extended, opcode_of, rd_of, funct3_of, rs1_of, rs2_of, funct5_of, funct6_of, funct7_of}
-use Rattle.rv_decode.specs.Rows.{rows, fits, has_fields, operands_of, read_by, decode_of}
-use Rattle.rv_decode.specs.Words.{row_of, imm_word, above_of, word_of, encode_of}
+use Rattle.rv_decode.specs.Rows.{rows, fits, read_by, decode_of}
+use Rattle.rv_decode.specs.Words.{row_of, above_of}
 use Rattle.rv_decode.proofs.Apart.{no_word_twice}
 use Rattle.rv_asm.specs.Names.{ops}
 

@@ -14,3 +14,4 @@ pub mod Statements
 pub mod Texts
 pub mod Tokens
 pub mod Written
+pub mod WordsDecode

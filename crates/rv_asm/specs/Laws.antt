@@ -4,7 +4,7 @@ use Rattle.std.specs.List.{AllByRecursion}
 use Rattle.rv_decode.specs.declared.Op.{Op}
 use Rattle.rv_decode.specs.Rows.{decode_of}
 use Rattle.rv_asm.specs.declared.form.Form.{Form}
-use Rattle.rv_asm.specs.declared.form.Form.TheVariants.{Upper, Jump, Branch, Offset, Store, Immediate, Shift, ShiftWord, Register, Fence, Bare, Reserve, Atomic, Data}
+use Rattle.rv_asm.specs.declared.form.Form.TheVariants.{Upper, Jump, Branch, Store, Register, Bare, Atomic, Data}
 use Rattle.rv_asm.specs.declared.names.Ordering.{Ordering}
 use Rattle.rv_asm.specs.declared.names.Mnemonic.TheVariants.{Named}
 use Rattle.rv_asm.specs.declared.meaning.Registers.{Registers}

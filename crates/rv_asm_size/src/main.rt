@@ -29,9 +29,11 @@ fn main(rt: HostRuntime) -> ExitCode {
 /// The words: one number.
 fn read_words(rt: &HostRuntime) -> io::Result<Option<u32>> {
     let mut words = env::args(rt)?.skip(1);
-    Ok(words
-        .next()
-        .and_then(|word| word.as_str().parse::<u32>().ok()))
+    Ok(
+        words
+            .next()
+            .and_then(|word| word.as_str().parse::<u32>().ok()),
+    )
 }
 
 /// So many branches to themselves, each with a label.
