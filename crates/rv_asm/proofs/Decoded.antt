@@ -26,10 +26,10 @@ use Rattle.rv_asm.proofs.Mnemonics.{MayStand}
 
 -- ------------------------------------------------------------------------------ numbers in their ranges
 
-abbrev Between : ℤ → ℤ → ℤ → Type 0
+abbrev pub Between : ℤ → ℤ → ℤ → Type 0
 Between low high z = (int_le low z ≡ true) × (int_le z high ≡ true)
 
-signed_12 : (x : ℕ) → x < 2 ^ 12 → Between (negsuc 2047) (pos 2047) (sign_extended 12 x) × (mag (sign_extended 12 x) < 2 ^ 63)
+pub signed_12 : (x : ℕ) → x < 2 ^ 12 → Between (negsuc 2047) (pos 2047) (sign_extended 12 x) × (mag (sign_extended 12 x) < 2 ^ 63)
 signed_12 x h = elim (cases_lt x (2 ^ 11)) [
   | inl lt ↦ let test : nat_lt x (2 ^ 11) ≡ true = grind (arith, nat_tests) in rw test ((grind (arith, ints), grind (arith, ints)), omega arith)
   | inr ge ↦
@@ -67,7 +67,7 @@ signed_21 x h = elim (cases_lt x (2 ^ 19)) [
 ]
 
 -- the upper 20 bits come back
-upper_back : (y : ℕ) → y < 2 ^ 20 → (cast_unsigned w64 (sign_extended 32 (y * 2 ^ 12)) % 2 ^ 32 / 2 ^ 12 ≡ y) × (mag (sign_extended 32 (y * 2 ^ 12)) < 2 ^ 63)
+pub upper_back : (y : ℕ) → y < 2 ^ 20 → (cast_unsigned w64 (sign_extended 32 (y * 2 ^ 12)) % 2 ^ 32 / 2 ^ 12 ≡ y) × (mag (sign_extended 32 (y * 2 ^ 12)) < 2 ^ 63)
 upper_back y h = elim (cases_lt y (2 ^ 19)) [
   | inl lt ↦
       let test : nat_lt (y * 2 ^ 12) (2 ^ 31) ≡ true = grind (arith, nat_tests) in

@@ -1,22 +1,18 @@
 -- The word of an instruction decodes to it: its fields are the row's, and no other row has them.
 use Rattle.std.specs.Prelude.{ℤ, pos, negsuc, ◌-ℤ◌, int_le}
-use Rattle.std.specs.Int.{w64, cast_unsigned, from_bool}
+use Rattle.std.specs.Int.{w64, cast_unsigned}
 use Rattle.std.specs.List.{find, filter}
 use Rattle.std.specs.Option.{option_map}
-use Rattle.std.proofs.Common.{◌≡◌, ℕ, zero, suc, ◌+◌, ◌-◌, ◌*◌, ◌/◌, ◌%◌, ◌^◌, ◌<◌, ◌≤◌, ◌==◌, ◌&&◌, ◌⊎◌, Bool, true, false, cond, nat_lt, List, [], ◌∷◌, map, length, arith, refl, sym, ap, subst, Option, None, Some, inl, inr}
+use Rattle.std.proofs.Common.{◌≡◌, ℕ, zero, suc, ◌+◌, ◌-◌, ◌*◌, ◌%◌, ◌^◌, ◌<◌, ◌≤◌, ◌⊎◌, Bool, true, false, cond, nat_lt, List, [], ◌∷◌, map, length, arith, refl, sym, ap, subst, Option, None, Some, inl, inr}
 use Rattle.std.proofs.Math.Path.{◌∙◌}
-use Rattle.std.proofs.lemmas.Bool.{cases_lt}
 use Rattle.std.proofs.lemmas.Bool.Decides.{nat_tests}
 use Rattle.std.proofs.lemmas.Int.{ints}
 use Rattle.rv_decode.specs.declared.Op.{Op}
 use Rattle.rv_decode.specs.declared.Op.TheVariants.{Lui, Auipc, Jal, Jalr, Beq, Bne, Blt, Bge, Bltu, Bgeu, Lb, Lh, Lw, Ld, Lbu, Lhu, Lwu, Sb, Sh, Sw, Sd, Addi, Slti, Sltiu, Xori, Ori, Andi, Slli, Srli, Srai, Add, Sll, Slt, Sltu, Xor, Srl, Or, And, Sub, Sra, Addiw, Slliw, Srliw, Sraiw, Addw, Sllw, Srlw, Subw, Sraw, Fence, Ecall, Ebreak, LrW, LrD, ScW, AmoswapW, AmoaddW, AmoxorW, AmoandW, AmoorW, AmominW, AmomaxW, AmominuW, AmomaxuW, ScD, AmoswapD, AmoaddD, AmoxorD, AmoandD, AmoorD, AmominD, AmomaxD, AmominuD, AmomaxuD}
-use Rattle.rv_decode.specs.declared.Instr.{Instr}
 use Rattle.rv_decode.specs.declared.Row.{Row}
-use Rattle.rv_decode.specs.declared.Format.{Format}
-use Rattle.rv_decode.specs.declared.Format.TheVariants.{Register as RegisterFormat, Immediate as ImmediateFormat, Shift as ShiftFormat, ShiftWord as ShiftWordFormat, Store as StoreFormat, Branch as BranchFormat, Upper as UpperFormat, Jump as JumpFormat, Whole as WholeFormat, Reserve as ReserveFormat, Atomic as AtomicFormat}
 use Rattle.rv_decode.specs.Fields.{bits_of, sign_extended, opcode_of, rd_of, funct3_of, rs1_of, rs2_of, funct5_of, funct6_of, funct7_of}
-use Rattle.rv_decode.specs.Rows.{rows, fits, has_fields, operands_of, read_by, decode_of}
-use Rattle.rv_decode.specs.Words.{row_of, imm_word, above_of, word_of, encode_of}
+use Rattle.rv_decode.specs.Rows.{rows, fits, read_by, decode_of}
+use Rattle.rv_decode.specs.Words.{row_of, above_of}
 use Rattle.rv_decode.proofs.Apart.{no_word_twice}
 use Rattle.rv_asm.specs.Names.{ops}
 
@@ -154,69 +150,74 @@ fitting op word h = ap (λ (o : Option Row). option_map (read_by word) o) (only 
 -- ------------------------------------------------------------------------------ the fields of a word
 
 -- what is in a row: its fields have their sizes
-record IsRow (r : Row) : Type 0 where
-  opcode : r.opcode < 128
-  funct3 : r.funct3 < 8
-  above : above_of r < 2 ^ 32
+pub record IsRow (r : Row) : Type 0 where
+  pub opcode : r.opcode < 128
+  pub funct3 : r.funct3 < 8
+  pub above : above_of r < 2 ^ 32
 
-row_small : (op : Op) → IsRow (row_of op)
+pub row_small : (op : Op) → IsRow (row_of op)
 unfolding row_of
 row_small Lui = record { opcode = omega arith; funct3 = omega arith; above = omega arith }
 row_small _ = record { opcode = omega arith; funct3 = omega arith; above = omega arith }
 
-register_fields : (o f rd rs1 rs2 a : ℕ) → o < 128 → f < 8 → rd < 32 → rs1 < 32 → rs2 < 32 → a < 128 →
+pub register_fields : (o f rd rs1 rs2 a : ℕ) → o < 128 → f < 8 → rd < 32 → rs1 < 32 → rs2 < 32 → a < 128 →
     let w : ℕ = o + f * 2 ^ 12 + rd % 2 ^ 5 * 2 ^ 7 + (rs1 % 2 ^ 5 * 2 ^ 15 + rs2 % 2 ^ 5 * 2 ^ 20) + a * 2 ^ 25 in
     (opcode_of w ≡ o) × (rd_of w ≡ rd) × (funct3_of w ≡ f) × (rs1_of w ≡ rs1) × (rs2_of w ≡ rs2) × (funct7_of w ≡ a)
 register_fields o f rd rs1 rs2 a ho hf hd h1 h2 ha = (omega arith, omega arith, omega arith, omega arith, omega arith, omega arith)
 
-immediate_fields : (o f rd rs1 x : ℕ) → o < 128 → f < 8 → rd < 32 → rs1 < 32 → x < 2 ^ 12 →
+pub immediate_fields : (o f rd rs1 x : ℕ) → o < 128 → f < 8 → rd < 32 → rs1 < 32 → x < 2 ^ 12 →
     let w : ℕ = o + f * 2 ^ 12 + rd % 2 ^ 5 * 2 ^ 7 + rs1 % 2 ^ 5 * 2 ^ 15 + x * 2 ^ 20 in
     (opcode_of w ≡ o) × (rd_of w ≡ rd) × (funct3_of w ≡ f) × (rs1_of w ≡ rs1) × (bits_of w 20 12 ≡ x)
 immediate_fields o f rd rs1 x ho hf hd h1 hx = (omega arith, omega arith, omega arith, omega arith, omega arith)
 
-shift_fields : (o f rd rs1 x a : ℕ) → o < 128 → f < 8 → rd < 32 → rs1 < 32 → x < 2 ^ 6 → a < 2 ^ 6 →
+pub shift_fields : (o f rd rs1 x a : ℕ) → o < 128 → f < 8 → rd < 32 → rs1 < 32 → x < 2 ^ 6 → a < 2 ^ 6 →
     let w : ℕ = o + f * 2 ^ 12 + rd % 2 ^ 5 * 2 ^ 7 + rs1 % 2 ^ 5 * 2 ^ 15 + x * 2 ^ 20 + a * 2 ^ 26 in
     (opcode_of w ≡ o) × (rd_of w ≡ rd) × (funct3_of w ≡ f) × (rs1_of w ≡ rs1) × (bits_of w 20 6 ≡ x) × (funct6_of w ≡ a)
 shift_fields o f rd rs1 x a ho hf hd h1 hx ha = (omega arith, omega arith, omega arith, omega arith, omega arith, omega arith)
 
-shift_word_fields : (o f rd rs1 x a : ℕ) → o < 128 → f < 8 → rd < 32 → rs1 < 32 → x < 2 ^ 5 → a < 2 ^ 7 →
+pub shift_word_fields : (o f rd rs1 x a : ℕ) → o < 128 → f < 8 → rd < 32 → rs1 < 32 → x < 2 ^ 5 → a < 2 ^ 7 →
     let w : ℕ = o + f * 2 ^ 12 + rd % 2 ^ 5 * 2 ^ 7 + rs1 % 2 ^ 5 * 2 ^ 15 + x * 2 ^ 20 + a * 2 ^ 25 in
     (opcode_of w ≡ o) × (rd_of w ≡ rd) × (funct3_of w ≡ f) × (rs1_of w ≡ rs1) × (bits_of w 20 5 ≡ x) × (funct7_of w ≡ a)
 shift_word_fields o f rd rs1 x a ho hf hd h1 hx ha = (omega arith, omega arith, omega arith, omega arith, omega arith, omega arith)
 
-store_fields : (o f rs1 rs2 x y : ℕ) → o < 128 → f < 8 → rs1 < 32 → rs2 < 32 → x < 2 ^ 5 → y < 2 ^ 7 →
+pub store_fields : (o f rs1 rs2 x y : ℕ) → o < 128 → f < 8 → rs1 < 32 → rs2 < 32 → x < 2 ^ 5 → y < 2 ^ 7 →
     let w : ℕ = o + f * 2 ^ 12 + x * 2 ^ 7 + (rs1 % 2 ^ 5 * 2 ^ 15 + rs2 % 2 ^ 5 * 2 ^ 20) + y * 2 ^ 25 in
     (opcode_of w ≡ o) × (funct3_of w ≡ f) × (rs1_of w ≡ rs1) × (rs2_of w ≡ rs2) × (bits_of w 7 5 ≡ x) × (bits_of w 25 7 ≡ y)
 store_fields o f rs1 rs2 x y ho hf h1 h2 hx hy = (omega arith, omega arith, omega arith, omega arith, omega arith, omega arith)
 
-branch_fields : (o f rs1 rs2 a b c d : ℕ) → o < 128 → f < 8 → rs1 < 32 → rs2 < 32 → a < 2 → b < 2 ^ 4 → c < 2 ^ 6 → d < 2 →
+pub branch_fields : (o f rs1 rs2 a b c d : ℕ) → o < 128 → f < 8 → rs1 < 32 → rs2 < 32 → a < 2 → b < 2 ^ 4 → c < 2 ^ 6 → d < 2 →
     let w : ℕ = o + f * 2 ^ 12 + a * 2 ^ 7 + b * 2 ^ 8 + (rs1 % 2 ^ 5 * 2 ^ 15 + rs2 % 2 ^ 5 * 2 ^ 20) + c * 2 ^ 25 + d * 2 ^ 31 in
     (opcode_of w ≡ o) × (funct3_of w ≡ f) × (rs1_of w ≡ rs1) × (rs2_of w ≡ rs2) × (bits_of w 7 1 ≡ a) × (bits_of w 8 4 ≡ b) × (bits_of w 25 6 ≡ c) × (bits_of w 31 1 ≡ d)
 branch_fields o f rs1 rs2 a b c d ho hf h1 h2 ha hb hc hd = (omega arith, omega arith, omega arith, omega arith, omega arith, omega arith, omega arith, omega arith)
 
-upper_fields : (o rd x : ℕ) → o < 128 → rd < 32 → x < 2 ^ 20 →
+pub upper_fields : (o rd x : ℕ) → o < 128 → rd < 32 → x < 2 ^ 20 →
     let w : ℕ = o + rd % 2 ^ 5 * 2 ^ 7 + x * 2 ^ 12 in
     (opcode_of w ≡ o) × (rd_of w ≡ rd) × (bits_of w 12 20 ≡ x)
 upper_fields o rd x ho hd hx = (omega arith, omega arith, omega arith)
 
-jump_fields : (o rd a b c d : ℕ) → o < 128 → rd < 32 → a < 2 ^ 8 → b < 2 → c < 2 ^ 10 → d < 2 →
+pub jump_fields : (o rd a b c d : ℕ) → o < 128 → rd < 32 → a < 2 ^ 8 → b < 2 → c < 2 ^ 10 → d < 2 →
     let w : ℕ = o + rd % 2 ^ 5 * 2 ^ 7 + a * 2 ^ 12 + b * 2 ^ 20 + c * 2 ^ 21 + d * 2 ^ 31 in
     (opcode_of w ≡ o) × (rd_of w ≡ rd) × (bits_of w 12 8 ≡ a) × (bits_of w 20 1 ≡ b) × (bits_of w 21 10 ≡ c) × (bits_of w 31 1 ≡ d)
 jump_fields o rd a b c d ho hd ha hb hc hd' = (omega arith, omega arith, omega arith, omega arith, omega arith, omega arith)
 
-whole_fields : (o a : ℕ) → o < 128 → a < 2 ^ 12 →
+pub whole_fields : (o a : ℕ) → o < 128 → a < 2 ^ 12 →
     let w : ℕ = o + a * 2 ^ 20 in
     (opcode_of w ≡ o) × (bits_of w 7 13 ≡ 0) × (bits_of w 20 12 ≡ a)
 whole_fields o a ho ha = (omega arith, omega arith, omega arith)
 
-atomic_fields : (o f rd rs1 rs2 q l a : ℕ) → o < 128 → f < 8 → rd < 32 → rs1 < 32 → rs2 < 32 → q < 2 → l < 2 → a < 32 →
+pub atomic_fields : (o f rd rs1 rs2 q l a : ℕ) → o < 128 → f < 8 → rd < 32 → rs1 < 32 → rs2 < 32 → q < 2 → l < 2 → a < 32 →
     let w : ℕ = o + f * 2 ^ 12 + rd % 2 ^ 5 * 2 ^ 7 + (rs1 % 2 ^ 5 * 2 ^ 15 + rs2 % 2 ^ 5 * 2 ^ 20) + (q * 2 ^ 26 + l * 2 ^ 25) + a * 2 ^ 27 in
     (opcode_of w ≡ o) × (rd_of w ≡ rd) × (funct3_of w ≡ f) × (rs1_of w ≡ rs1) × (rs2_of w ≡ rs2) × (bits_of w 26 1 ≡ q) × (bits_of w 25 1 ≡ l) × (funct5_of w ≡ a)
 atomic_fields o f rd rs1 rs2 q l a ho hf hd h1 h2 hq hl ha = (omega arith, omega arith, omega arith, omega arith, omega arith, omega arith, omega arith, omega arith)
 
+pub reserve_fields : (o f rd rs1 q l a : ℕ) → o < 128 → f < 8 → rd < 32 → rs1 < 32 → q < 2 → l < 2 → a < 32 →
+    let w : ℕ = o + f * 2 ^ 12 + rd % 2 ^ 5 * 2 ^ 7 + rs1 % 2 ^ 5 * 2 ^ 15 + (q * 2 ^ 26 + l * 2 ^ 25) + a * 2 ^ 27 in
+    (opcode_of w ≡ o) × (rd_of w ≡ rd) × (funct3_of w ≡ f) × (rs1_of w ≡ rs1) × (rs2_of w ≡ 0) × (bits_of w 26 1 ≡ q) × (bits_of w 25 1 ≡ l) × (funct5_of w ≡ a)
+reserve_fields o f rd rs1 q l a ho hf hd h1 hq hl ha = (omega arith, omega arith, omega arith, omega arith, omega arith, omega arith, omega arith, omega arith)
+
 -- ------------------------------------------------------------------------------ the numbers of a word
 
-low_12 : (n : ℤ) → int_le (negsuc 2047) n ≡ true → int_le n (pos 2047) ≡ true → sign_extended 12 (cast_unsigned w64 n % 2 ^ 32 % 2 ^ 12) ≡ n
+pub low_12 : (n : ℤ) → int_le (negsuc 2047) n ≡ true → int_le n (pos 2047) ≡ true → sign_extended 12 (cast_unsigned w64 n % 2 ^ 32 % 2 ^ 12) ≡ n
 low_12 (pos n) lo hi =
     let small : n < 2 ^ 11 = grind (arith, ints) in
     let same : n % 2 ^ 32 % 2 ^ 12 ≡ n = omega arith in

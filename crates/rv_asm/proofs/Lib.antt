@@ -1,5 +1,6 @@
 pub mod Assembly
 pub mod Decoded
+pub mod Decoding
 pub mod Encoded
 pub mod Mnemonics
 pub mod Numbers
@@ -13,3 +14,4 @@ pub mod Statements
 pub mod Texts
 pub mod Tokens
 pub mod Written
+pub mod WordsDecode

@@ -19,7 +19,7 @@ mod token;
 
 pub use form::Form;
 pub use labels::Place;
-pub use laws::printed_assembles;
+pub use laws::{printed_assembles, words_decode};
 pub use meaning::Registers;
 pub use names::{Mnemonic, Ordering};
 pub use printer::print;
