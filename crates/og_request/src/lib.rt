@@ -146,6 +146,14 @@ impl Request {
         }
     }
 
+    /// What would become of the request with this part. The request stays as it is.
+    pub fn outcome_with(&self, kind: &Kind) -> Outcome
+        requires { IsTrue (has_row self.now kind.now) }
+        ensures { result ≡ outcome_of (received self.now kind.now) }
+    {
+        self.twin().reply(kind)
+    }
+
     /// Marks a read whose block was invalidated while it was on its way.
     pub fn mark(&mut self)
         requires { self.old.want ≡ Want.Read }
@@ -190,6 +198,21 @@ impl Request {
         match &self.response {
             Some(Response::Exclusive(line)) => Some(line),
             _ => None,
+        }
+    }
+
+    /// A second request with the same parts.
+    fn twin(&self) -> Request
+        ensures { result ≡ self.now }
+    {
+        Request {
+            block: self.block,
+            want: self.want,
+            marked: self.marked,
+            held: self.held,
+            reply: self.reply,
+            response: self.response,
+            acks: self.acks,
         }
     }
 
