@@ -127,6 +127,13 @@ impl Home {
         self.counters.rules().nodes
     }
 
+    /// How many frames a node has.
+    pub fn frames(&self) -> u16
+        ensures { result ≡ (home_of self.now).rules.frames }
+    {
+        self.counters.rules().frames
+    }
+
     /// The entry of a block, by the index of its frame and its number there.
     pub fn entry(&self, index: u16, number: u8) -> &Entry
         requires frame { index < (home_of self.now).rules.frames }
@@ -297,7 +304,7 @@ fn notify(mover: ActorId, hot: Option<Hot>, out: &mut Outbox)
 }
 
 /// Whether the sender of a message is one that sends its kind: the mover, or a node.
-fn is_from_its_sender(msg: &Msg, nodes: u8) -> bool
+pub fn is_from_its_sender(msg: &Msg, nodes: u8) -> bool
     ensures { IsTrue result ↔ IsFromItsSender nodes msg.now }
 {
     if msg.kind.is_from_mover() {
