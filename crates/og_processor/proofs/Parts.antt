@@ -44,6 +44,25 @@ pub same_request : (request : Requested) (kind : Kind) → (received request kin
 unfolding received
 same_request request kind = grind arith
 
+same_want : (request : Requested) (kind : Kind) → (received request kind).want ≡ request.want
+unfolding received
+same_want request kind = grind arith
+
+same_held : (request : Requested) (kind : Kind) → (received request kind).held ≡ request.held
+unfolding received
+same_held request kind = grind arith
+
+-- so its end is judged by the request as it was
+pub same_end : (x : ProcessorState) (request : Requested) (kind : Kind) (outcome : Outcome) → ends_well x (received request kind) outcome ≡ ends_well x request outcome
+same_end x request kind outcome = by request (received request kind) outcome (same_request request kind) (same_want request kind) (same_held request kind)
+  where
+    by : (r s : Requested) (o : Outcome) → s.block ≡ r.block → s.want ≡ r.want → s.held ≡ r.held → ends_well x s o ≡ ends_well x r o
+    by r s Waiting b w h = rw (b, h) refl
+    by r s (Filled mode None) b w h = rw (b, h) refl
+    by r s (Filled mode (Some line)) b w h = rw (b, h) refl
+    by r s Again b w h = rw (b, w, h) refl
+    by r s Poisoned b w h = rw (b, h) refl
+
 -- an end that has its rows
 pub well_copy : (x : ProcessorState) (request : Requested) (outcome : Outcome) → ends_well x request outcome ≡ true → (has_its_copy x request.block outcome ≡ true) × (may_answer x request outcome ≡ true)
 well_copy x request outcome h = both (has_its_copy x request.block outcome) (may_answer x request outcome) h

@@ -14,7 +14,9 @@ ghost use Rattle.std.specs.Prelude.{◌≡◌, ◌≢◌, ◌<◌, ◌≤◌, �
 ghost use Rattle.og_line.specs.declared.Line.{Line};
 ghost use Rattle.og_line.specs.declared.Reservation.{Reservation};
 ghost use Rattle.og_line.specs.Access.{addr_of, answer_of, IsAligned};
+ghost use Rattle.std.specs.Option.{option_copied};
 ghost use Rattle.og_tlb.specs.Tlb.{look_of as frame_of};
+ghost use Rattle.og_victim.specs.Slot.{is_free_slot};
 ghost use Rattle.og_cache.specs.Cache.{look_of, mode_of, line_of, thrown_out};
 ghost use Rattle.rv_hart.specs.Hart.{need_of};
 ghost use Rattle.og_processor.specs.State.{letter as letter_to};
@@ -22,6 +24,7 @@ ghost use Rattle.og_processor.specs.Access.{page_of as page_at, block_in as bloc
 ghost use Rattle.og_processor.specs.Act.{wanted as is_wanted, stop_note as noted_at};
 ghost use Rattle.og_processor.specs.Laws.{StaysSound};
 
+pub mod served;
 pub mod take;
 
 use og_base::{
@@ -153,6 +156,27 @@ impl Processor {
             victim: Slot::free(),
             drop: None,
         })
+    }
+
+    /// The cache.
+    pub fn cache(&self) -> &Cache
+        ensures { result.now ≡ self.now.cache }
+    {
+        &self.cache
+    }
+
+    /// The outstanding request, None exactly where there is none.
+    pub fn request(&self) -> Option<&Request>
+        ensures { option_copied result ≡ self.now.request }
+    {
+        self.request.as_ref()
+    }
+
+    /// Whether the victim slot is free.
+    pub fn victim_free(&self) -> bool
+        ensures { result ≡ is_free_slot self.now.victim }
+    {
+        self.victim.is_free()
     }
 
     /// Whether the processor may act, and else the first reason that applies: its hart has stopped, a request or a walk
