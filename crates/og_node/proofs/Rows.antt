@@ -1,5 +1,5 @@
 -- What the test for a row comes to, part by part.
-use Rattle.std.proofs.Common.{◌≡◌, ℕ, ◌<◌, ◌≤◌, Bool, true, false, ◌&&◌, Option, None, Some, refl}
+use Rattle.std.proofs.Common.{◌≡◌, ℕ, ◌<◌, ◌≤◌, Bool, true, false, ◌&&◌, Option, None, Some, refl, subst, sym}
 use Rattle.std.specs.Prelude.{MatchBool, nat_eq, nat_lt, nat_le, is_some, if◌then◌else◌}
 use Rattle.std.proofs.lemmas.Bool.{false≢true, and_parts, and_from, ltb-true, lt-ltb, leb-true, le-leb, eqb-true, eq-eqb}
 use Rattle.og_base.specs.declared.Block.{Block}
@@ -101,3 +101,23 @@ processor_row x msg =
 pub row_told : (x : NodeState) (msg : Msg Kind) → Tells (has_row x msg) (HasRow x msg)
 unfolding has_row HasHomeRow
 row_told x msg = either (is_for_home msg.kind) (home_row x.home msg msg.kind) (processor_row x msg)
+
+-- ---- the node's own test
+
+-- two tests that tell the same are the same
+pub told_same : (s t : Bool) {P : Type 0} → Tells s P → Tells t P → s ≡ t
+told_same true true p q = refl
+told_same true false p q = absurd (false≢true (q.1 (p.0 refl)))
+told_same false true p q = absurd (false≢true (p.1 (q.0 refl)))
+told_same false false p q = refl
+
+pub sender_told : (n : ℕ) (msg : Msg Kind) (test : Bool) → Tells test (IsFromItsSender n msg) → test ≡ is_from_its_sender n msg
+sender_told n msg test tells = told_same test (is_from_its_sender n msg) tells (from_sender n msg)
+
+pub by_home : (x : NodeState) (msg : Msg Kind) (test : Bool) → is_for_home msg.kind ≡ true → Tells test (HasHomeRow x.home msg) → Tells test (HasRow x msg)
+by_home x msg test is tells = subst (λ by. Tells test (MatchBool by (HasHomeRow x.home msg) (HasProcessorRow x msg))) (sym is) tells
+
+pub by_processor : (x : NodeState) (msg : Msg Kind) (test : Bool) → is_for_home msg.kind ≡ false → test ≡ has_processor_row x msg → Tells test (HasRow x msg)
+by_processor x msg test is same =
+    subst (λ by. Tells test (MatchBool by (HasHomeRow x.home msg) (HasProcessorRow x msg))) (sym is)
+    (subst (λ t. Tells t (HasProcessorRow x msg)) (sym same) (processor_row x msg))

@@ -11,16 +11,23 @@
 ghost use Rattle.std.specs.Prelude.{◌≡◌, ◌<◌, ◌≤◌, ◌+◌, ◌++◌, length, true, false, IfOk, Ok};
 ghost use Rattle.og_node.specs.Kept.{node_of};
 ghost use Rattle.og_node.specs.Node.{new_node, act_of as node_act, take_of as node_take, is_for_home as goes_home, HasRow};
+ghost use Rattle.std.specs.Option.{option_copied};
+ghost use Rattle.og_victim.specs.Slot.{is_free_slot};
 ghost use Rattle.og_processor.specs.Act.{may_act};
 ghost use Rattle.og_processor.specs.Sound.{IsSound, IsLowProcessor, IsLowKind};
 
 pub mod laws;
+pub mod served;
+#[cfg(test)]
+mod tests;
 
 use og_base::{NoMemory, NodeId, NotEnabled, Settings};
+use og_cache::Cache;
 use og_home::Home;
 use og_image::{Image, Layout};
 use og_msg::{Kind, Msg, Note, Outbox};
 use og_processor::Processor;
+use og_request::Request;
 use std::alloc::Global;
 use std::marker::Model;
 
@@ -82,6 +89,34 @@ impl Node {
             processor: Processor::make(alloc, number, image, settings)?,
             home: Home::make(alloc, number, image, layout, settings)?,
         })
+    }
+
+    /// The cache.
+    pub fn cache(&self) -> &Cache
+        ensures { result.now ≡ self.now.processor.cache }
+    {
+        self.processor.cache()
+    }
+
+    /// The home part.
+    pub fn home(&self) -> &Home
+        ensures { result.now ≡ self.now.home }
+    {
+        &self.home
+    }
+
+    /// The outstanding request, None exactly where there is none.
+    pub fn request(&self) -> Option<&Request>
+        ensures { option_copied result ≡ self.now.processor.request }
+    {
+        self.processor.request()
+    }
+
+    /// Whether the victim slot is free.
+    pub fn victim_free(&self) -> bool
+        ensures { result ≡ is_free_slot self.now.processor.victim }
+    {
+        self.processor.victim_free()
     }
 
     /// Whether the node may act, and else the first reason that applies: its hart has stopped, a request or a walk is
