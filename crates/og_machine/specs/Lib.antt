@@ -2,4 +2,9 @@ pub mod Machine
 pub mod Choices
 pub mod Held
 pub mod OneWriter
+pub mod FlatRun
+pub mod HartRuns
+pub mod Scenes
+pub mod Runs
+pub mod Races
 pub mod Laws

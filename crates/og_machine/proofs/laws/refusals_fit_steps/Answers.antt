@@ -1,5 +1,5 @@
 use Rattle.og_machine.proofs.Refusals.{act_exact, step_allowed, take_step}
-use Rattle.og_machine.proofs.laws.refusals_are_exact.Goals as goal
+use Rattle.og_machine.proofs.laws.refusals_fit_steps.Goals as goal
 
 pub returns-clause-acts : goal.returns-clause-acts
 returns-clause-acts c = act_exact
