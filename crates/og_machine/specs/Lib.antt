@@ -7,4 +7,5 @@ pub mod HartRuns
 pub mod Scenes
 pub mod Runs
 pub mod Races
+pub mod Moves
 pub mod Laws
