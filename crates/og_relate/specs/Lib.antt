@@ -1,0 +1,12 @@
+pub mod Data
+pub mod Places
+pub mod Sim
+pub mod Sides
+pub mod Goes
+pub mod Owes
+pub mod Steps
+pub mod Node
+pub mod Begin
+pub mod Acts
+pub mod MoverSteps
+pub mod Laws
