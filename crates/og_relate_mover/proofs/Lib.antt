@@ -1,0 +1,4 @@
+pub mod Events
+pub mod PageEvents
+pub mod Holders
+pub mod BlockEvents
