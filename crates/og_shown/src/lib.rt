@@ -1,0 +1,31 @@
+//! What holds of each machine that shows a world of the theory.
+//!
+//! Below stands the relation (`og_relate`); above will stand the machine of nodes and mover, of which each state shows a world.
+//! `specs/Shown` says where a machine has the line of a block, and what it means that nothing names a frame.
+//!
+//! There is no code to run: each function is a law, its contract, with an empty body.
+#![tactic(auto)]
+
+ghost use Rattle.og_shown.specs.Laws.{WritersAreAlone, CopiesAreInPlace, LinesAreHeld, FreeFramesAreUnnamed, MessagesHaveRoom};
+
+/// A node with a copy that it may write is the only node with a copy; and a copy is of a block that some page has in its place.
+pub fn one_writer<L, H>()
+    ensures alone { WritersAreAlone L H }
+    ensures in_place { CopiesAreInPlace L H }
+{}
+
+/// The line of each block of each page is the flat memory's, found in a dirty copy, in a message that carries it, in a request that
+/// has received it, and else at the block's home: before, during and after every move.
+pub fn lines_are_held<L, H>()
+    ensures { LinesAreHeld L H }
+{}
+
+/// A free frame is named by no copy, no translation, no request and no holder.
+pub fn free_frames_are_unnamed<L, H>()
+    ensures { FreeFramesAreUnnamed L H }
+{}
+
+/// There are at most as many messages in flight as keys.
+pub fn messages_have_room<L, H>()
+    ensures { MessagesHaveRoom L H }
+{}
