@@ -1,11 +1,13 @@
 //! What holds of each machine that shows a world of the theory.
 //!
 //! Below stands the relation (`og_relate`); above will stand the machine of nodes and mover, of which each state shows a world.
-//! `specs/Shown` says where a machine has the line of a block, and what it means that nothing names a frame.
+//! `specs/Shown` says where a machine has the line of a block, and what it means that nothing names a frame; `specs/Waits` who waits,
+//! and for what.
 //!
 //! There is no code to run: each function is a law, its contract, with an empty body.
 #![tactic(auto)]
 
+ghost use Rattle.og_shown.specs.Waits.{RequestsWait, SlotsWait, WalksWait, CollectsWait};
 ghost use Rattle.og_shown.specs.Laws.{WritersAreAlone, CopiesAreInPlace, LinesAreHeld, FreeFramesAreUnnamed, MessagesHaveRoom};
 
 /// A node with a copy that it may write is the only node with a copy; and a copy is of a block that some page has in its place.
@@ -28,4 +30,14 @@ pub fn free_frames_are_unnamed<L, H>()
 /// There are at most as many messages in flight as keys.
 pub fn messages_have_room<L, H>()
     ensures { MessagesHaveRoom L H }
+{}
+
+/// Whoever waits, waits for a message that is in flight: a node with an outstanding request, with a block in its victim slot or with
+/// a walk, and the mover that collects a block. What was received by a node that is patient isn't what it waits for. That the message
+/// is taken isn't claimed.
+pub fn waiters_have_messages<L, H>()
+    ensures requests { RequestsWait L H }
+    ensures slots { SlotsWait L H }
+    ensures walks { WalksWait L H }
+    ensures collects { CollectsWait L H }
 {}
