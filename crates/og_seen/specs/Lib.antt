@@ -1,0 +1,4 @@
+pub mod Numbers
+pub mod Caches
+pub mod Tlbs
+pub mod Laws
