@@ -7,6 +7,7 @@ use Rattle.og_relate.specs.Sim.{Sim}
 use Rattle.og_relate.specs.Goes.{Goes}
 use Rattle.og_relate.specs.Steps.{letter}
 use Rattle.og_relate.specs.Laws.{machine, MovesWith}
+use Rattle.og_relate.specs.MoverSteps.{refuse}
 use Rattle.og_relate_mover.specs.Steps.{begin, ask_out, ask_again, take_reply, take_ack, copy_out, take_copied, publish, take_dropped, clean_out, free, take_walk}
 
 -- a notice is taken up, where the mover is idle, the frame has a page, and another frame is free
@@ -102,3 +103,10 @@ FramesAreFreed L H =
     (s : Setup) (harts : Harts L H) (cpu : ℕ → Cpu L H) (home : ℕ → HomeSide L) (mover : Mover L) (w : World L) (frame : ℕ) (rest : List (Post L))
     → Sim s harts (machine cpu home mover (letter (s.home frame) s.nodes (KFrameClean frame) ∷ rest)) w
     → (mover.job ≡ MCleaning frame) × Goes s harts (machine cpu home (free mover frame) rest) w
+
+-- a notice is refused, whatever the mover does
+abbrev pub NoticesAreTurnedAway : (L H : Type 0) → Type 0
+NoticesAreTurnedAway L H =
+    (s : Setup) (harts : Harts L H) (cpu : ℕ → Cpu L H) (home : ℕ → HomeSide L) (mover : Mover L) (w : World L) (a frame node count most : ℕ) (rest : List (Post L))
+    → Sim s harts (machine cpu home mover (letter a s.nodes (KHot frame node count most) ∷ rest)) w
+    → MovesWith s harts cpu home rest w (refuse s frame mover)
