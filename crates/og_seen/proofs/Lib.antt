@@ -1,3 +1,4 @@
 pub mod Numbers
 pub mod Caches
 pub mod Tlbs
+pub mod Pages

@@ -12,9 +12,17 @@ use Rattle.og_tlb.specs.declared.Translation.{Translation}
 use Rattle.og_tlb.specs.Tlb.{Translations, IsTlb, look_of as frame_of, empty_tlb, filled as tlb_filled, overwritten, without_page, without_frame}
 use Rattle.og_cache.specs.declared.CachedBlock.{CachedBlock}
 use Rattle.og_cache.specs.Cache.{Cached, IsCache, look_of, empty_cache, has_room, filled, with_mode, with_line, without, thrown_out, reserved}
-use Rattle.og_seen.specs.Numbers.{Sizes, frame_count, is_there, frame_number, frame_at}
+use Rattle.og_line.specs.declared.Access.{Access}
+use Rattle.og_line.specs.Access.{addr_of}
+use Rattle.og_image.specs.Image.{ImageState}
+use Rattle.rv_hart.specs.declared.hart.Need.TheVariants as need
+use Rattle.rv_hart.specs.Hart.{need_of}
+use Rattle.og_processor.specs.State.{ProcessorState}
+use Rattle.og_processor.specs.Access.{page_of}
+use Rattle.og_seen.specs.Numbers.{Sizes, frame_count, is_there, frame_number, frame_at, page_number}
 use Rattle.og_seen.specs.Caches.{copy_in, cache_seen}
 use Rattle.og_seen.specs.Tlbs.{tlb_seen, IsNumbered, PagesDiffer, NamesFrames}
+use Rattle.og_seen.specs.Sound.{AreSizes, IsPlaced, IsProcessorOf}
 
 -- frames that there are have numbers below the count of frames, each its own, and each such number has its frame
 pub record NumbersAreFrames : Type 0 where
@@ -53,3 +61,10 @@ pub record TlbsAreSeen : Type 0 where
       → tlb_seen s (without_page tlb page) ≡ put (tlb_seen s tlb) y NoEntry
   pub drop_frame : (s : Sizes) (tlb : Translations) (frame : Frame) (y : ℕ) → IsTlb tlb → NamesFrames s tlb → is_there s frame ≡ true
       → tlb_seen s (without_frame tlb frame) y ≡ cond (points_to (frame_number s frame) (tlb_seen s tlb y)) NoEntry (tlb_seen s tlb y)
+
+-- each placed page has its number, and each number its page; and the page of an access that a hart needs is placed
+pub record PagesAreSeen : Type 0 where
+  pub number : (s : Sizes) (page : VPage) → IsPlaced s page → IsNumbered s page (page_number s page)
+  pub one : (s : Sizes) (page other : VPage) → IsPlaced s page → IsPlaced s other → page_number s page ≡ page_number s other → page ≡ other
+  pub differ : (s : Sizes) → AreSizes s → PagesDiffer s
+  pub needed : (image : ImageState) (s : Sizes) (x : ProcessorState) (access : Access) → IsProcessorOf image s x → need_of image x.hart ≡ need.Access access → IsPlaced s (page_of (addr_of access))

@@ -1,4 +1,11 @@
 pub mod Numbers
 pub mod Caches
 pub mod Tlbs
+pub mod Messages
+pub mod Harts
+pub mod Processors
+pub mod Homes
+pub mod Movers
+pub mod Sound
+pub mod Events
 pub mod Laws
