@@ -1,11 +1,11 @@
 -- Who waits in a machine, and for what.
-use Rattle.std.specs.Prelude.{◌≡◌, ◌≢◌, ℕ, ◌<◌}
-use Rattle.std.proofs.Common.{Option, Some}
+use Rattle.std.specs.Prelude.{◌≡◌, ◌≢◌, ℕ, ◌<◌, true, ◌⊎◌}
+use Rattle.std.proofs.Common.{Option, None, Some}
 use Rattle.og_block.specs.Message.{Message as BlockMessage}
 use Rattle.og_whole.specs.Events.{World}
 use Rattle.og_whole.specs.Messages.{OfBlock}
-use Rattle.og_relate.specs.Data.{Post, Request, Slot, MCollect, Machine, Harts, Setup}
-use Rattle.og_relate.specs.Places.{WalkAt, content_of, Has}
+use Rattle.og_relate.specs.Data.{Post, Request, Slot, MCollect, MWait, MGather, MCleaning, Machine, Harts, Setup}
+use Rattle.og_relate.specs.Places.{CommandAt, WalkAt, DropAt, content_of, Has}
 use Rattle.og_relate.specs.Sim.{Sim}
 use Rattle.og_relate.specs.Node.{Waits, outcome}
 use Rattle.og_shown.specs.Shown.{Among}
@@ -52,3 +52,25 @@ CollectsWait L H =
     (s : Setup) (harts : Harts L H) (m : Machine L H) (w : World L) (page old new number acks : ℕ) (reply : Option (L × ℕ))
     → Sim s harts m w → IsPatient s m → m.mover.job ≡ MCollect page old new number reply acks
     → HasMessage s m old number
+
+-- the mover that waits for a copy waits for a message between it and a home
+abbrev pub CopiesWait : (L H : Type 0) → Type 0
+CopiesWait L H =
+    (s : Setup) (harts : Harts L H) (m : Machine L H) (w : World L) (page old new number : ℕ)
+    → Sim s harts m w → m.mover.job ≡ MWait page old new number
+    → Has s.nodes m.flight CommandAt
+
+-- so does the mover that waits for a cleaning
+abbrev pub CleaningsWait : (L H : Type 0) → Type 0
+CleaningsWait L H =
+    (s : Setup) (harts : Harts L H) (m : Machine L H) (w : World L) (frame : ℕ)
+    → Sim s harts m w → m.mover.job ≡ MCleaning frame
+    → Has s.nodes m.flight CommandAt
+
+-- a holder that is left of a frame that is gathered is a node; the request to drop the frame is on its way to it, or the answer
+-- on its way back, or the node keeps the request
+abbrev pub GathersWait : (L H : Type 0) → Type 0
+GathersWait L H =
+    (s : Setup) (harts : Harts L H) (m : Machine L H) (w : World L) (frame q : ℕ)
+    → Sim s harts m w → m.mover.job ≡ MGather frame → m.mover.holders frame q ≡ true
+    → (q < s.nodes) × (Has s.nodes m.flight (DropAt q) ⊎ ((m.cpu q).drop ≢ None))

@@ -7,7 +7,7 @@
 //! There is no code to run: each function is a law, its contract, with an empty body.
 #![tactic(auto)]
 
-ghost use Rattle.og_shown.specs.Waits.{RequestsWait, SlotsWait, WalksWait, CollectsWait};
+ghost use Rattle.og_shown.specs.Waits.{RequestsWait, SlotsWait, WalksWait, CollectsWait, CopiesWait, CleaningsWait, GathersWait};
 ghost use Rattle.og_shown.specs.Laws.{WritersAreAlone, CopiesAreInPlace, LinesAreHeld, FreeFramesAreUnnamed, MessagesHaveRoom};
 
 /// A node with a copy that it may write is the only node with a copy; and a copy is of a block that some page has in its place.
@@ -40,4 +40,12 @@ pub fn waiters_have_messages<L, H>()
     ensures slots { SlotsWait L H }
     ensures walks { WalksWait L H }
     ensures collects { CollectsWait L H }
+{}
+
+/// The mover that waits for a copy or for a cleaning waits for a message between it and a home, in flight. Of a frame that is gathered
+/// each holder that is left has the request to drop it: the request or its answer is in flight, or the node keeps the request.
+pub fn mover_has_messages<L, H>()
+    ensures copies { CopiesWait L H }
+    ensures cleanings { CleaningsWait L H }
+    ensures gathers { GathersWait L H }
 {}
