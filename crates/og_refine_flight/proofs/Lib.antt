@@ -1,0 +1,2 @@
+mod Inserted
+pub mod Order

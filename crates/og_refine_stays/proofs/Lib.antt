@@ -1,0 +1,4 @@
+mod Named
+mod Acts
+mod Takes
+pub mod Stays

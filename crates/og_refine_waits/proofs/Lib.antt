@@ -1,0 +1,3 @@
+mod Requests
+pub mod Processors
+pub mod Mover
