@@ -1,0 +1,12 @@
+pub mod Tables
+pub mod Facts
+pub mod Changes
+pub mod Routes
+pub mod Holders
+pub mod Acts
+pub mod Sent
+pub mod Blocks
+pub mod Frames
+pub mod Notices
+pub mod Takes
+pub mod Sizes

@@ -1,0 +1,12 @@
+pub mod Facts
+pub mod Given
+pub mod Drops
+pub mod Walks
+pub mod Slots
+pub mod Invalidations
+pub mod Interventions
+pub mod Takes
+pub mod Ready
+pub mod Hits
+pub mod Misses
+pub mod Acts

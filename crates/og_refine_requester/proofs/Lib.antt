@@ -1,0 +1,13 @@
+pub mod Facts
+pub mod Fills
+pub mod Drops
+pub mod Held
+pub mod Tail
+pub mod Settle
+pub mod Outcomes
+pub mod Finds
+pub mod Rows
+pub mod Ends
+pub mod PartRows
+pub mod Taken
+pub mod Parts
