@@ -1,0 +1,4 @@
+pub mod Machines
+pub mod Charges
+pub mod Names
+pub mod Laws
