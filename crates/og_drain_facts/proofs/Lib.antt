@@ -1,0 +1,4 @@
+pub mod Choices
+pub mod Stopped
+pub mod Walks
+pub mod Running
