@@ -7,7 +7,7 @@
 //! There is no code to run: each function is a law, its contract, with an empty body.
 #![tactic(auto)]
 
-ghost use Rattle.og_drain_facts.specs.Laws.{DrainGoesOn, DrainEndsQuiet, NothingIsAsked};
+ghost use Rattle.og_drain_facts.specs.Laws.{DrainGoesOn, DrainEndsQuiet, NothingIsAsked, NoRequestFlies, BusyBlocksHaveRevisions, DrainMeetsNoBusyBlock, NoNakInTheDrain};
 
 /// The drain's next choice is enabled and has a step; and there is none exactly where the machine is quiet.
 pub fn the_drain_goes_on()
@@ -15,7 +15,20 @@ pub fn the_drain_goes_on()
     ensures quiet { DrainEndsQuiet }
 {}
 
-/// In a stopped machine no node has a request or a walk outstanding.
+/// In a stopped machine no node has a request or a walk outstanding, and no request for a block is in flight.
 pub fn nothing_is_asked()
-    ensures { NothingIsAsked }
+    ensures nodes { NothingIsAsked }
+    ensures flight { NoRequestFlies }
+{}
+
+/// Where a home's entry of a stopped machine waits for the block's owner on a node's behalf, a revision of the block is in flight; so
+/// the drain takes the mover's request for no such block, since it takes one only where nothing else is in flight.
+pub fn busy_blocks_have_revisions()
+    ensures revisions { BusyBlocksHaveRevisions }
+    ensures drain { DrainMeetsNoBusyBlock }
+{}
+
+/// No step of the drain sends a refusal.
+pub fn the_drain_refuses_nothing()
+    ensures { NoNakInTheDrain }
 {}
