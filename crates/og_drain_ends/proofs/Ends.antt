@@ -11,8 +11,6 @@ use Rattle.og_runs.proofs.Whole.{world_more}
 use Rattle.og_msg.specs.declared.Kind.{Kind}
 use Rattle.og_msg.specs.declared.Kind.TheVariants.{PoisonRead}
 use Rattle.og_msg.specs.declared.Note.{Note}
-use Rattle.og_directory.specs.declared.entry.State.{State}
-use Rattle.og_directory.specs.declared.entry.State.TheVariants.{BusyShared, BusyExclusive}
 use Rattle.og_node.specs.Node.{NodeState}
 use Rattle.og_machine.specs.Machine.{Setup, ActorState, Node, Mover, Machine, rules, has_stopped, is_stopped, is_quiet}
 use Rattle.og_machine.specs.Choices.{drain_of, drawn_from, drawn_choice, with_choice, with_event}
@@ -23,10 +21,9 @@ use Rattle.og_refine.proofs.Runs.{Followed}
 use Rattle.og_refine.proofs.Unnamed.{node_is, mover_sits, same_actor}
 use Rattle.og_refine.proofs.GoesOn.{all_seats}
 use Rattle.og_drain.specs.Measure.{measure}
-use Rattle.og_drain.specs.Laws.{is_between, is_refused_now, IsStill, IsAmong, Each, IsDrained, Drains}
+use Rattle.og_drain.specs.Laws.{is_refused_now, IsStill, IsAmong, Each, IsDrained, Drains}
 use Rattle.og_drain.proofs.Machines.{stopped_machines_pay}
 use Rattle.og_drain.proofs.Bounds.{measure_is_bounded}
-use Rattle.og_drain_facts.specs.Laws.{is_busy}
 use Rattle.og_drain_facts.proofs.Stopped.{reached, seat_stopped, drain_goes_on, drain_ends_quiet}
 use Rattle.og_drain_facts.proofs.Running.{nothing_is_asked}
 use Rattle.og_drain_facts.proofs.Lawful.{no_request_flies, drain_meets_no_busy_block}
@@ -36,11 +33,6 @@ use Rattle.og_drain_ends.specs.Laws.{DrainsBy, drain_most, DrainEnds, Simulation
 
 same_node : (a b : NodeState) → Node a ≡ Node b → a ≡ b
 same_node a b e = cc
-
-between_is_busy : (entry : State) → is_busy entry ≡ false → is_between entry ≡ false
-between_is_busy (BusyShared owner requester) e = absurd (cc)
-between_is_busy (BusyExclusive owner requester returned) e = absurd (cc)
-between_is_busy entry e = refl
 
 -- a machine that a run leads to, and that has stopped
 record Stopped (setup : Setup) (w : Machine) : Type 0 where
@@ -81,7 +73,7 @@ drained_well setup w (Act actor) s e = tt
 drained_well setup w (Take actor id) s e = λ message seat found there. by message seat found there seat.local refl
   where
     unrefused : (message : Msg Kind) (seat : Seat ActorState) (x : NodeState) → find id w.flight ≡ Some message → slice_get w.seats actor ≡ Some seat → seat.local ≡ Node x → (kind : Kind) → message.kind ≡ kind → is_refused_now x.home kind ≡ false
-    unrefused message seat x found there is (PoisonRead block) k = between_is_busy (x.home.entry block.frame.index block.number) (drain_meets_no_busy_block setup s.choices w s.events actor seat x id message block s.ok s.run s.stopped e found k there is)
+    unrefused message seat x found there is (PoisonRead block) k = drain_meets_no_busy_block setup s.choices w s.events actor seat x id message block s.ok s.run s.stopped e found k there is
     unrefused message seat x found there is kind k = refl
 
     by : (message : Msg Kind) (seat : Seat ActorState) → find id w.flight ≡ Some message → slice_get w.seats actor ≡ Some seat → (local : ActorState) → seat.local ≡ local → IsDrained local message.kind

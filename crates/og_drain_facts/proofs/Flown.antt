@@ -39,7 +39,8 @@ use Rattle.og_refine.specs.Machines.{cpus, homes, mover_at, posts}
 use Rattle.og_refine.proofs.Moved.{taken_first}
 use Rattle.og_refine.proofs.Steps.{Follows}
 use Rattle.og_machine.specs.Machine.{Setup, Machine}
-use Rattle.og_drain_facts.specs.Laws.{is_busy, is_revision}
+use Rattle.og_drain.specs.Laws.{is_between}
+use Rattle.og_drain_facts.specs.Laws.{is_revision}
 use Rattle.og_drain_facts.proofs.Choices.{IsIn}
 
 -- ---- one block
@@ -148,7 +149,7 @@ module _ (setup : Setup) (s : Sizes) (w : Machine) (harts : ℕ → HartState) (
   ]
 
   -- an entry of a home that waits for its owner
-  pub busy_told : (x : HomeState) (b : Block) → IsAt s x b.frame → homes s w x.rules.home ≡ home_seen s x → b.number < 32 → is_busy (x.entry b.frame.index b.number) ≡ true → (m : Msg Kind) × IsIn m w.flight × (is_revision m.kind ≡ true) × (block_of m.kind ≡ Some b)
+  pub busy_told : (x : HomeState) (b : Block) → IsAt s x b.frame → homes s w x.rules.home ≡ home_seen s x → b.number < 32 → is_between (x.entry b.frame.index b.number) ≡ true → (m : Msg Kind) × IsIn m w.flight × (is_revision m.kind ≡ true) × (block_of m.kind ≡ Some b)
   busy_told x b own here lk busy = revision_flies b own.there lk (by (x.entry b.frame.index b.number) refl busy)
     where
       g : ℕ
@@ -158,7 +159,7 @@ module _ (setup : Setup) (s : Sizes) (w : Machine) (harts : ℕ → HartState) (
       shown = subst (λ (h : HomeEntry). EntryShows s.nodes h (home_entry_at v g b.number)) (ap (λ (q : ℕ). (homes s w q).entry g b.number) (home_is s x b.frame own) ∙ (ap (λ (h : HomeSide Line). h.entry g b.number) here ∙ entry_here s x b.frame own b.number))
           (f.shows.homes g b.number (number_below s b.frame own.there) lk).entry
 
-      by : (e : State) → x.entry b.frame.index b.number ≡ e → is_busy e ≡ true → (v.block g b.number).revision ≢ NoRevision
+      by : (e : State) → x.entry b.frame.index b.number ≡ e → is_between e ≡ true → (v.block g b.number).revision ≢ NoRevision
       by (state.BusyShared o p) e u = told_shared g b.number o p lk (entry_is (is_blank_in v.pages g) (v.block g b.number).entry (BusyShared o p) (subst (λ (h : State). EntryShows s.nodes (entry_seen s.nodes h) (home_entry_at v g b.number)) e shown) (λ z. absurd (cc)))
       by (state.BusyExclusive o p r) e u = told_exclusive g b.number o p r lk (entry_is (is_blank_in v.pages g) (v.block g b.number).entry (BusyExclusive o p r) (subst (λ (h : State). EntryShows s.nodes (entry_seen s.nodes h) (home_entry_at v g b.number)) e shown) (λ z. absurd (cc)))
       by e is u = absurd (cc)

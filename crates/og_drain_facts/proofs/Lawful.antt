@@ -33,7 +33,8 @@ use Rattle.og_refine.proofs.Runs.{Followed}
 use Rattle.og_refine.proofs.Moved.{found_own}
 use Rattle.og_refine.proofs.Unnamed.{node_is, same_actor}
 use Rattle.og_refine_home.proofs.Places.{IsAt}
-use Rattle.og_drain_facts.specs.Laws.{is_busy, is_revision, NoRequestFlies, BusyBlocksHaveRevisions, DrainMeetsNoBusyBlock}
+use Rattle.og_drain.specs.Laws.{is_between}
+use Rattle.og_drain_facts.specs.Laws.{is_revision, NoRequestFlies, BusyBlocksHaveRevisions, DrainMeetsNoBusyBlock}
 use Rattle.og_drain_facts.proofs.Choices.{IsIn, found_in, mover_acts, drained}
 use Rattle.og_drain_facts.proofs.Stopped.{reached}
 use Rattle.og_drain_facts.proofs.Running.{nothing_is_asked}
@@ -90,7 +91,7 @@ taken_is : (a b : ℕ) (i j : MsgId) → Take a i ≡ Take b j → (a ≡ b) × 
 taken_is a b i j e = (cc, cc)
 
 pub drain_meets_no_busy_block : DrainMeetsNoBusyBlock
-drain_meets_no_busy_block setup choices w events q seat x id message block ok run stopped is found kind there local = by (is_busy (x.home.entry block.frame.index block.number)) refl
+drain_meets_no_busy_block setup choices w events q seat x id message block ok run stopped is found kind there local = by (is_between (x.home.entry block.frame.index block.number)) refl
   where
     r : Followed setup (flat_begin setup.image setup.settings).harts (flat_begin setup.image setup.settings).flat w events
     r = reached setup choices w events ok run
@@ -123,7 +124,7 @@ drain_meets_no_busy_block setup choices w events q seat x id message block ok ru
     own : IsAt s x.home block.frame
     own = record { there = exists; home = ap (λ f. f.home) (sym (at_number s block.frame exists)) ∙ (sym sent.1.1 ∙ (sym taken.0 ∙ h.1)) }
 
-    by : (t : Bool) → is_busy (x.home.entry block.frame.index block.number) ≡ t → is_busy (x.home.entry block.frame.index block.number) ≡ false
+    by : (t : Bool) → is_between (x.home.entry block.frame.index block.number) ≡ t → is_between (x.home.entry block.frame.index block.number) ≡ false
     by false e = e
     by true e = absurd (
         let m = busy_told setup s w r.end _ r.world r.follows (silent setup choices w events ok run stopped) x.home block own h.2 sent.0.1 e in

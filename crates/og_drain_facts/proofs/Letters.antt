@@ -28,7 +28,8 @@ use Rattle.og_directory.specs.declared.entry.State.TheVariants.{Unowned, Shared,
 use Rattle.og_home.specs.Home.{HomeState, serve, serve_row, serve_block, by_row, serve_kind, serve_named, and_then_if, table_row, count_request, clean_frame, rearm}
 use Rattle.og_msg.specs.Kinds.{block_of}
 use Rattle.og_machine.specs.Choices.{is_poison_read}
-use Rattle.og_drain_facts.specs.Laws.{is_busy, is_nak}
+use Rattle.og_drain.specs.Laws.{is_between}
+use Rattle.og_drain_facts.specs.Laws.{is_nak}
 
 -- no letter refuses
 abbrev pub NoNaks : List (Letter Kind) → Type 0
@@ -132,7 +133,7 @@ invalidations : (b : Block) (p : ℕ) (qs : List ℕ) → NoNaks (map (λ q. to 
 invalidations b p [] = tt
 invalidations b p (q ∷ qs) = (refl, invalidations b p qs)
 
-poison_plain : (n : ℕ) (m : Line) (b : Block) (e : State) → is_busy e ≡ false → NoNaks (letters_of (poison_row n m b e))
+poison_plain : (n : ℕ) (m : Line) (b : Block) (e : State) → is_between e ≡ false → NoNaks (letters_of (poison_row n m b e))
 poison_plain n m b Unowned h = (refl, tt)
 poison_plain n m b (Shared s) h = both (map (λ q. to q (Invalidate b n)) (sharers_but n n s)) (to n (PoisonReply b m (length (sharers_but n n s))) ∷ []) (invalidations b n (sharers_but n n s)) (refl, tt)
 poison_plain n m b (Exclusive q) h = (refl, tt)
@@ -146,7 +147,7 @@ copy_plain n b l Unowned = (refl, tt)
 copy_plain n b l e = tt
 
 -- the table's row of a message that is no request
-row_plain : (n p : ℕ) (m : Line) (k : Kind) (e : State) → is_request k ≡ false → (is_poison_read k ≡ true → is_busy e ≡ false) → NoNaks (letters_of (kind_row n m p k e))
+row_plain : (n p : ℕ) (m : Line) (k : Kind) (e : State) → is_request k ≡ false → (is_poison_read k ≡ true → is_between e ≡ false) → NoNaks (letters_of (kind_row n m p k e))
 row_plain n p m (Read b) e none free = absurd (cc)
 row_plain n p m (ReadEx b) e none free = absurd (cc)
 row_plain n p m (Upgrade b) e none free = absurd (cc)
@@ -164,7 +165,7 @@ served_plain : (home : HomeState) (b : Block) (o : Option Row) → NoNaks (lette
 served_plain home b None h = tt
 served_plain home b (Some r) h = h
 
-block_plain : (home : HomeState) (b : Block) (message : Msg Kind) → is_request message.kind ≡ false → (is_poison_read message.kind ≡ true → is_busy (home.entry b.frame.index b.number) ≡ false) → NoNaks (serve_block home b message).letters
+block_plain : (home : HomeState) (b : Block) (message : Msg Kind) → is_request message.kind ≡ false → (is_poison_read message.kind ≡ true → is_between (home.entry b.frame.index b.number) ≡ false) → NoNaks (serve_block home b message).letters
 unfolding serve_row
 block_plain home b message none free = by (is_counted message.kind (serve_row home b message).letters) (ap (λ (t : Bool). t && not (list_any is_refusal (serve_row home b message).letters)) none)
   where
@@ -176,7 +177,7 @@ named_plain : (home : HomeState) (message : Msg Kind) (o : Option Block) → ((b
 named_plain home message None h = tt
 named_plain home message (Some b) h = h b refl
 
-pub serve_plain : (home : HomeState) (message : Msg Kind) → is_request message.kind ≡ false → ((b : Block) → message.kind ≡ PoisonRead b → is_busy (home.entry b.frame.index b.number) ≡ false) → NoNaks (serve home message).letters
+pub serve_plain : (home : HomeState) (message : Msg Kind) → is_request message.kind ≡ false → ((b : Block) → message.kind ≡ PoisonRead b → is_between (home.entry b.frame.index b.number) ≡ false) → NoNaks (serve home message).letters
 unfolding serve clean_frame rearm
 serve_plain home message none free = by message.kind refl
   where

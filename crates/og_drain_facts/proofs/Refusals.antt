@@ -38,7 +38,8 @@ use Rattle.og_refine.proofs.Steps.{Stepped}
 use Rattle.og_refine.proofs.Moved.{found_own}
 use Rattle.og_refine.proofs.Runs.{Followed}
 use Rattle.og_refine.proofs.Unnamed.{mover_sits}
-use Rattle.og_drain_facts.specs.Laws.{is_busy, is_nak, NoNakInTheDrain}
+use Rattle.og_drain.specs.Laws.{is_between}
+use Rattle.og_drain_facts.specs.Laws.{is_nak, NoNakInTheDrain}
 use Rattle.og_drain_facts.proofs.Choices.{IsIn, found_in, is_in_found, mover_acts, drained}
 use Rattle.og_drain_facts.proofs.Stopped.{reached}
 use Rattle.og_drain_facts.proofs.Running.{nothing_is_asked}
@@ -160,7 +161,7 @@ module _ (setup : Setup) (choices : List Choice) (w : Machine) (events : List (E
     | inr j ↦ in_after m taken w.flight j
   ]
 
-  node_plain : (u : Machine) (t : Msg Kind) (o : Opened setup w u t.to (Some t)) (x : NodeState) → o.seat.local ≡ Node x → find t.id w.flight ≡ Some t → ((b : Block) → t.kind ≡ PoisonRead b → is_busy (x.home.entry b.frame.index b.number) ≡ false) → NoNaks o.result.letters
+  node_plain : (u : Machine) (t : Msg Kind) (o : Opened setup w u t.to (Some t)) (x : NodeState) → o.seat.local ≡ Node x → find t.id w.flight ≡ Some t → ((b : Block) → t.kind ≡ PoisonRead b → is_between (x.home.entry b.frame.index b.number) ≡ false) → NoNaks o.result.letters
   unfolding take_of
   node_plain u t o x local found free =
       let row = row_is (has_row (Node x) t) (taking setup (Node x) t) o.result (subst (λ (y : ActorState). (if has_row y t then Some (taking setup y t) else None) ≡ Some o.result) local o.is) in

@@ -12,14 +12,13 @@ use Rattle.og_msg.specs.declared.Kind.{Kind}
 use Rattle.og_msg.specs.declared.Kind.TheVariants.{SharingWriteBack, SharingTransfer, DirtyTransfer, PoisonBack, PoisonClean, PoisonRead, Nak}
 use Rattle.og_msg.specs.Kinds.{block_of}
 use Rattle.og_directory.specs.Table.{is_request}
-use Rattle.og_directory.specs.declared.entry.State.{State}
-use Rattle.og_directory.specs.declared.entry.State.TheVariants.{BusyShared, BusyExclusive}
 use Rattle.og_msg.specs.declared.Note.{Note}
 use Rattle.og_node.specs.Node.{NodeState}
 use Rattle.og_machine.specs.Machine.{Setup, ActorState, Node, Machine, rules, refusal_of, is_stopped, is_quiet}
 use Rattle.og_machine.specs.Choices.{drain_of}
 use Rattle.og_refine.specs.Machines.{IsRunnable}
 use Rattle.og_refine.specs.Laws.{RunsTo}
+use Rattle.og_drain.specs.Laws.{is_between}
 
 -- the drain's next choice is enabled, and has a step
 abbrev pub DrainGoesOn : Type 0
@@ -49,12 +48,6 @@ NoRequestFlies =
     → IsRunnable setup → RunsTo setup choices w events → is_stopped w ≡ true → find id w.flight ≡ Some message
     → is_request message.kind ≡ false
 
--- a home's entry that waits for the block's owner on a node's behalf: there the mover's request for the block would be refused
-abbrev pub is_busy : State → Bool
-is_busy (BusyShared owner requester) = true
-is_busy (BusyExclusive owner requester returned) = true
-is_busy entry = false
-
 -- what an owner tells the home
 abbrev pub is_revision : Kind → Bool
 is_revision (SharingWriteBack block line) = true
@@ -64,22 +57,23 @@ is_revision (PoisonBack block line) = true
 is_revision (PoisonClean block) = true
 is_revision kind = false
 
--- of each block whose entry waits so, a revision is in flight
+-- of each block that one node gives to another, by its home's entry, a revision is in flight: there the mover's question for it would
+-- be refused
 abbrev pub BusyBlocksHaveRevisions : Type 0
 BusyBlocksHaveRevisions =
     (setup : Setup) (choices : List Choice) (w : Machine) (events : List (Event Note)) (q : ℕ) (seat : Seat ActorState) (x : NodeState) (block : Block)
     → IsRunnable setup → RunsTo setup choices w events → is_stopped w ≡ true
     → slice_get w.seats q ≡ Some seat → seat.local ≡ Node x
-    → block.frame.home ≡ q → block.frame.index < setup.settings.frames → block.number < 32 → is_busy (x.home.entry block.frame.index block.number) ≡ true
+    → block.frame.home ≡ q → block.frame.index < setup.settings.frames → block.number < 32 → is_between (x.home.entry block.frame.index block.number) ≡ true
     → (id : MsgId) × (message : Msg Kind) × (find id w.flight ≡ Some message) × (is_revision message.kind ≡ true) × (block_of message.kind ≡ Some block)
 
--- so where the drain takes the mover's request for a block, the block's entry doesn't wait so
+-- so where the drain takes the mover's question for a block, no node gives it to another one
 abbrev pub DrainMeetsNoBusyBlock : Type 0
 DrainMeetsNoBusyBlock =
     (setup : Setup) (choices : List Choice) (w : Machine) (events : List (Event Note)) (q : ℕ) (seat : Seat ActorState) (x : NodeState) (id : MsgId) (message : Msg Kind) (block : Block)
     → IsRunnable setup → RunsTo setup choices w events → is_stopped w ≡ true → drain_of setup w ≡ Some (Take q id) → find id w.flight ≡ Some message → message.kind ≡ PoisonRead block
     → slice_get w.seats q ≡ Some seat → seat.local ≡ Node x
-    → is_busy (x.home.entry block.frame.index block.number) ≡ false
+    → is_between (x.home.entry block.frame.index block.number) ≡ false
 
 -- a refusal, after which a request is sent again
 abbrev pub is_nak : Kind → Bool

@@ -21,8 +21,8 @@ pub fn nothing_is_asked()
     ensures flight { NoRequestFlies }
 {}
 
-/// Where a home's entry of a stopped machine waits for the block's owner on a node's behalf, a revision of the block is in flight; so
-/// the drain takes the mover's request for no such block, since it takes one only where nothing else is in flight.
+/// Of each block that one node gives to another, by its home's entry, a revision is in flight in a stopped machine; so the drain takes
+/// the mover's question for no such block, since it takes one only where nothing else is in flight.
 pub fn busy_blocks_have_revisions()
     ensures revisions { BusyBlocksHaveRevisions }
     ensures drain { DrainMeetsNoBusyBlock }
