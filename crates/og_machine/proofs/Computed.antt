@@ -24,11 +24,13 @@ use Rattle.og_mover.specs.Table.{holders_rising, act_of as mover_act_of, take_of
 use Rattle.og_pager.specs.PageTable.{frame_of, page_of, left_at, is_free, is_quarantined, holders_of, moves_of, is_moving, move_of, least_free, oldest, walked, begun, settled, dropped, reclaimed, first_table}
 use Rattle.og_base.specs.Numbers.{below}
 use Rattle.og_flat.specs.Flat.{bytes_from}
-use Rattle.og_machine.specs.Choices.{enabled_of, drain_of}
+use Rattle.og_machine.specs.Choices.{enabled_of, drain_of, drawn_from}
 use Rattle.og_machine.specs.FlatRun.{plain_within, hart_notes}
 use Rattle.og_machine.specs.Runs.{CallTraps, StoreIsLoaded, StoreIsForced, StoreIsFlat, BothLoad}
 use Rattle.og_machine.specs.Races.{sharers, DirtyOwnerShares, MarkedReadAsksAgain, InterventionIsHeld, SecondUpgradeIsRefused, WriteBackAnswers, LineReturnsFirst, OwnerIsServedFromMemory, MarkedReadIsGranted}
 use Rattle.og_machine.specs.Moves.{PageMoves, FrameIsFreed}
+use Rattle.og_machine.specs.Held.{held, place, line_of_block}
+use Rattle.og_machine.specs.Drains.{StartDrains, MoveDrains, ReclaimDrains, WriteBackDrains, TransferDrains}
 
 pub call_traps : CallTraps
 unfolding machine_act_of machine_take_of start_machine is_stopped is_quiet node_has_row processor_act_of may_act processor_take_of has_row_for start_home serve_row count_request rearm clean_frame serve are_poisoned sharers_but sum_of most_of_others cache_look_of empty_cache has_room cache_filled with_mode with_line without thrown_out reserved tlb_look_of empty_tlb tlb_filled without_page without_frame answers after_intervention new_request received outcome_of request_has_row value_of access_of target_of start_of need_of finish_of halt_of rows decode_of in_order holders_rising mover_act_of mover_take_of has_table_row place_of first_mover frame_of page_of left_at is_free is_quarantined holders_of moves_of is_moving move_of least_free oldest walked begun settled dropped reclaimed first_table below bytes_from drain_of
@@ -124,4 +126,50 @@ frame_is_freed = record {
   waiting = rw (holds_0, holds_1) refl;
   answered = rw (holds_0, holds_1, are_two, holds_0, left_one, left_1, left_none) refl;
   noted = rw (holds_0, holds_1, are_two, holds_0, left_one, left_1, left_none) refl;
+}
+
+pub start_drains : StartDrains
+unfolding machine_act_of machine_take_of start_machine is_stopped is_quiet node_has_row processor_act_of may_act processor_take_of has_row_for start_home serve_row count_request rearm clean_frame serve are_poisoned sharers_but sum_of most_of_others cache_look_of empty_cache has_room cache_filled with_mode with_line without thrown_out reserved tlb_look_of empty_tlb tlb_filled without_page without_frame answers after_intervention new_request received outcome_of request_has_row value_of access_of target_of start_of need_of finish_of halt_of rows decode_of in_order holders_rising mover_act_of mover_take_of has_table_row place_of first_mover frame_of page_of left_at is_free is_quarantined holders_of moves_of is_moving move_of least_free oldest walked begun settled dropped reclaimed first_table below bytes_from drain_of drawn_from held place line_of_block
+start_drains = record { stopped = refl; quiet = refl; noted = refl }
+
+-- node 1 is the only sharer
+only_2 : set.contains (sharers (1 ∷ [])) 2 ≡ false
+only_2 = set.contains-from_list_nat (1 ∷ []) 2
+
+pub move_drains : MoveDrains
+unfolding machine_act_of machine_take_of start_machine is_stopped is_quiet node_has_row processor_act_of may_act processor_take_of has_row_for start_home serve_row count_request rearm clean_frame serve are_poisoned sharers_but sum_of most_of_others cache_look_of empty_cache has_room cache_filled with_mode with_line without thrown_out reserved tlb_look_of empty_tlb tlb_filled without_page without_frame answers after_intervention new_request received outcome_of request_has_row value_of access_of target_of start_of need_of finish_of halt_of rows decode_of in_order holders_rising mover_act_of mover_take_of has_table_row place_of first_mover frame_of page_of left_at is_free is_quarantined holders_of moves_of is_moving move_of least_free oldest walked begun settled dropped reclaimed first_table below bytes_from drain_of drawn_from held place line_of_block
+move_drains = record {
+  drains = record {
+    stopped = refl;
+    events = rw (one_0, one_1, only_2) refl;
+    none_left = rw (one_0, one_1, only_2) refl;
+    quiet = rw (one_0, one_1, only_2) refl;
+    simulated = λ number k. rw (one_0, one_1, only_2) refl;
+  };
+  line = rw (one_0, one_1, only_2) refl;
+}
+
+-- both nodes hold the old frame; node 0 drops it, and then node 1
+pub reclaim_drains : ReclaimDrains
+unfolding machine_act_of machine_take_of start_machine is_stopped is_quiet node_has_row processor_act_of may_act processor_take_of has_row_for start_home serve_row count_request rearm clean_frame serve are_poisoned sharers_but sum_of most_of_others cache_look_of empty_cache has_room cache_filled with_mode with_line without thrown_out reserved tlb_look_of empty_tlb tlb_filled without_page without_frame answers after_intervention new_request received outcome_of request_has_row value_of access_of target_of start_of need_of finish_of halt_of rows decode_of in_order holders_rising mover_act_of mover_take_of has_table_row place_of first_mover frame_of page_of left_at is_free is_quarantined holders_of moves_of is_moving move_of least_free oldest walked begun settled dropped reclaimed first_table below bytes_from drain_of drawn_from held place line_of_block
+reclaim_drains = record {
+  stopped = refl;
+  events = rw (holds_0, left_one, left_1, left_none) refl;
+  none_left = rw (holds_0, left_one, left_1, left_none) refl;
+  quiet = rw (holds_0, left_one, left_1, left_none) refl;
+  simulated = λ number k. rw (holds_0, left_one, left_1, left_none) refl;
+}
+
+pub write_back_drains : WriteBackDrains
+unfolding machine_act_of machine_take_of start_machine is_stopped is_quiet node_has_row processor_act_of may_act processor_take_of has_row_for start_home serve_row count_request rearm clean_frame serve are_poisoned sharers_but sum_of most_of_others cache_look_of empty_cache has_room cache_filled with_mode with_line without thrown_out reserved tlb_look_of empty_tlb tlb_filled without_page without_frame answers after_intervention new_request received outcome_of request_has_row value_of access_of target_of start_of need_of finish_of halt_of rows decode_of in_order holders_rising mover_act_of mover_take_of has_table_row place_of first_mover frame_of page_of left_at is_free is_quarantined holders_of moves_of is_moving move_of least_free oldest walked begun settled dropped reclaimed first_table below bytes_from drain_of drawn_from held place line_of_block
+write_back_drains = record {
+  drains = record { stopped = refl; events = refl; none_left = refl; quiet = refl; simulated = λ number k. refl };
+  line = refl;
+}
+
+pub transfer_drains : TransferDrains
+unfolding machine_act_of machine_take_of start_machine is_stopped is_quiet node_has_row processor_act_of may_act processor_take_of has_row_for start_home serve_row count_request rearm clean_frame serve are_poisoned sharers_but sum_of most_of_others cache_look_of empty_cache has_room cache_filled with_mode with_line without thrown_out reserved tlb_look_of empty_tlb tlb_filled without_page without_frame answers after_intervention new_request received outcome_of request_has_row value_of access_of target_of start_of need_of finish_of halt_of rows decode_of in_order holders_rising mover_act_of mover_take_of has_table_row place_of first_mover frame_of page_of left_at is_free is_quarantined holders_of moves_of is_moving move_of least_free oldest walked begun settled dropped reclaimed first_table below bytes_from drain_of drawn_from held place line_of_block
+transfer_drains = record {
+  drains = record { stopped = refl; events = refl; none_left = refl; quiet = refl; simulated = λ number k. refl };
+  line = refl;
 }

@@ -8,4 +8,5 @@ pub mod Scenes
 pub mod Runs
 pub mod Races
 pub mod Moves
+pub mod Drains
 pub mod Laws

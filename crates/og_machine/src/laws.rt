@@ -1,5 +1,6 @@
 //! What follows from the definitions alone, as clauses of functions that do nothing.
 
+ghost use Rattle.og_machine.specs.Drains.{StartDrains, MoveDrains, ReclaimDrains, WriteBackDrains, TransferDrains};
 ghost use Rattle.og_machine.specs.Laws.{ActsHaveSteps, StepsAreEnabled, TakesWithRowsHaveSteps};
 ghost use Rattle.og_machine.specs.Moves.{PageMoves, FrameIsFreed};
 ghost use Rattle.og_machine.specs.Races.{DirtyOwnerShares, MarkedReadAsksAgain, InterventionIsHeld, SecondUpgradeIsRefused, WriteBackAnswers, LineReturnsFirst, OwnerIsServedFromMemory, MarkedReadIsGranted};
@@ -44,4 +45,16 @@ pub fn races_go_as_told()
 pub fn a_move_goes_as_told()
     ensures moves { PageMoves }
     ensures freed { FrameIsFreed }
+{}
+
+/// Worked examples of drains, by computation: each event until the machine is quiet, and how many they are. The harts stop when a
+/// move has begun, and the whole page is moved (`whole`); in the midst of a move (`midst`), in which the mover's request for a block
+/// was sent before the home hears that another node has the block, and is taken after that; of a reclaim; of a write-back that
+/// crosses the mover's question to the owner; and of one behind a transfer, both sent after the mover's request.
+pub fn drains_go_as_told()
+    ensures whole { StartDrains }
+    ensures midst { MoveDrains }
+    ensures reclaim { ReclaimDrains }
+    ensures write_back { WriteBackDrains }
+    ensures transfer { TransferDrains }
 {}
