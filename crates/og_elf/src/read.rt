@@ -37,8 +37,10 @@ const STACKS_ADDR: u64 = 0x7000_0000;
 const MOST_MEMORY: u64 = 16_777_216;
 
 /// Reads an ELF-64 executable: its entry and the segments of its loadable program headers, or the
-/// first fault of the file. What else stands in the file is passed over.
+/// first fault of the file. What else stands in the file is passed over. A fault of the file's head is
+/// told whatever memory there is; the program headers are collected in memory before they are looked at.
 pub fn read_elf(alloc: Global, bytes: &[u8]) -> Result<Elf, ElfFault>
+    ensures head { (fault : ElfFault) → head_fault bytes.now ≡ Some fault → result ≡ Err fault }
     ensures bad { (cause : ElfCause) (at : ℕ) → result ≡ Err (ElfFault.Bad cause at) → fault_of bytes.now ≡ Some (ElfFault.Bad cause at) }
     ensures sound { OnOk result (fault_of bytes.now ≡ None) }
     ensures read { IfOk result (λ elf. elf ≡ elf_of bytes.now) }
