@@ -1,6 +1,6 @@
 //! The choices of a choices file, and the settings that they are made with.
 
-ghost use Rattle.std.specs.Prelude.{◌≡◌, ◌⊎◌, Err, None, IfSome, true, false};
+ghost use Rattle.std.specs.Prelude.{◌≡◌, ◌≤◌, ◌⊎◌, Err, None, IfOk, IfSome, length, true, false};
 ghost use Rattle.og_io.specs.Outside.{TellsLongFile};
 ghost use Rattle.og_load.specs.Choices.{ChoicesLoad, ChoicesRead, feeds_of, gives_other as gives_other_than, gives_others, differs as head_differs, used};
 
@@ -93,7 +93,9 @@ fn read_choices(
     words: &Settings,
     given: &Given,
 ) -> Result<Choices, Unused<ChoiceFault>>
-    ensures { ChoicesRead words.now given.now bytes.now result }
+    ensures read { ChoicesRead words.now given.now bytes.now result }
+    ensures in_lines { IfOk result (λ loaded. length loaded.lines ≡ length loaded.choices) }
+    ensures few { IfOk result (λ loaded. length loaded.choices ≤ 16777217) }
 {
     if count_feeds(bytes) > MOST_FEEDS {
         return Err(Unused::Fault(ChoiceFault::TooLong));
@@ -125,6 +127,8 @@ pub fn load_choices<F: Shelf>(
     given: &Given,
 ) -> Result<Choices, Unused<ChoiceFault>>
     ensures loads { ChoicesLoad words.now given.now name.now (F.seen shelf.old) (F.seen shelf.new) result }
+    ensures in_lines { IfOk result (λ loaded. length loaded.lines ≡ length loaded.choices) }
+    ensures few { IfOk result (λ loaded. length loaded.choices ≤ 16777217) }
     ensures long { TellsLongFile (F.seen shelf.old).files name.now MOST_BYTES → (result ≡ Err Unused.Unread) ⊎ (result ≡ Err (Unused.Fault ChoiceFault.TooLong)) }
 {
     match shelf.fetch(alloc, name, MOST_BYTES) {
