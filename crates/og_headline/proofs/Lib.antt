@@ -1,0 +1,4 @@
+pub mod Sorted
+pub mod Enabled
+pub mod Drawn
+pub mod Refused
