@@ -1,0 +1,5 @@
+use Rattle.og_stores.proofs.Machines as machines
+use Rattle.og_stores.proofs.lines_are_low.Goals as goal
+
+pub returns : goal.returns
+returns c = machines.lines_are_low
