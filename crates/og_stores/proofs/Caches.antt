@@ -1,8 +1,8 @@
 -- A cache whose ways have few stores, after each change of it. Nothing is needed of the cache: each way holds what some way held, or
 -- what is put there.
-use Rattle.std.proofs.Common.{◌≡◌, ◌%◌, ◌+◌, ◌*◌, ◌≤◌, ℕ, Bool, true, false, Option, None, Some, sym, subst, ⊎_elim, List, length, arith}
+use Rattle.std.proofs.Common.{◌%◌, ◌+◌, ◌*◌, ◌≤◌, ℕ, Bool, true, false, Option, None, Some, sym, subst, ⊎_elim, List, length, arith}
 use Rattle.std.proofs.lemmas.Bool.{cases_lt}
-use Rattle.std.specs.Prelude.{IfSome, is_some, option_map, slice_index_or, if◌then◌else◌}
+use Rattle.std.specs.Prelude.{IfSome, is_some, option_map, if◌then◌else◌}
 use Rattle.std.specs.List.{All}
 use Rattle.std.proofs.lemmas.List.{get_or_past}
 use Rattle.std.proofs.lemmas.List.Elements.{All-get_or, All-take, All-drop, All-set, All-replicate, All-weaker}

@@ -1,5 +1,5 @@
 -- A home copies lines: its own, or its message's.
-use Rattle.std.proofs.Common.{◌≡◌, ◌≤◌, ◌+◌, ◌*◌, ℕ, Bool, true, false, nat_eq, Option, None, Some, [], ◌∷◌, ◌++◌, length, map, arith}
+use Rattle.std.proofs.Common.{◌≤◌, ◌+◌, ◌*◌, ℕ, Bool, true, false, nat_eq, Option, None, Some, [], ◌∷◌, length, map, arith}
 use Rattle.std.specs.Prelude.{◌&&◌, nat_lt, slice_get, if◌then◌else◌}
 use Rattle.std.specs.FinSet as set
 use Rattle.og_base.specs.declared.Block.{Block}
@@ -17,7 +17,7 @@ use Rattle.og_image.specs.Layout.{LayoutState}
 use Rattle.og_directory.specs.declared.entry.State.{State}
 use Rattle.og_directory.specs.declared.entry.State.TheVariants.{Unowned, Shared, Exclusive, BusyShared, BusyExclusive, BusyPoison, Poison}
 use Rattle.og_directory.specs.Table.{Row, Groups, row, to, with_node, is_sharer, sharers_but, invalidating, read_row, read_exclusive_row, grant, upgrade_row, write_back_row, sharing_row, transfer_row, poisoned_row, poison_row, copy_row, kind_row, is_counted}
-use Rattle.og_home.specs.Home.{HomeState, Served, served, with_pair, table_row, by_row, serve_row, notice_letters, count_request, rearm, clean_frame, and_then_if, serve_block, serve_named, serve_kind, serve}
+use Rattle.og_home.specs.Home.{HomeState, Served, table_row, by_row, serve_row, notice_letters, count_request, rearm, clean_frame, and_then_if, serve_block, serve_named, serve_kind, serve}
 use Rattle.og_home.specs.Start.{placed_line, first_line, start_home}
 use Rattle.og_stores.specs.Stores.{FewInKind, FewInHome}
 use Rattle.og_stores.proofs.Letters.{FewInLetters, both_letters, told_letters}

@@ -1,5 +1,5 @@
 -- Letters whose lines have few stores.
-use Rattle.std.proofs.Common.{◌+◌, ◌≤◌, ℕ, Option, None, Some, List, [], ◌∷◌, ◌++◌, map, arith}
+use Rattle.std.proofs.Common.{◌≤◌, ℕ, Option, None, Some, List, [], ◌∷◌, ◌++◌, map, arith}
 use Rattle.std.specs.List.{AllByRecursion}
 use Rattle.og_line.specs.declared.Line.{Line}
 use Rattle.og_runs.specs.declared.Letter.{Letter}

@@ -1,5 +1,5 @@
 -- A run makes at most one store an event: the seats and the messages in flight, step by step from the start.
-use Rattle.std.proofs.Common.{◌≡◌, ◌∙◌, ◌+◌, ◌≤◌, ◌<◌, ◌^◌, ℕ, zero, suc, Bool, true, false, cond, nat_eq, Option, None, Some, Result, refl, sym, ap, subst, List, [], ◌∷◌, ◌++◌, length, map, slice_get, slice_set, arith}
+use Rattle.std.proofs.Common.{◌≡◌, ◌+◌, ◌≤◌, ◌<◌, ◌^◌, ℕ, zero, suc, Bool, true, false, cond, nat_eq, Option, None, Some, Result, refl, subst, List, [], ◌∷◌, ◌++◌, length, map, slice_get, slice_set, arith}
 use Rattle.std.specs.Prelude.{Ok, Err, nat_lt, if◌then◌else◌}
 use Rattle.std.specs.List.{AllByRecursion}
 use Rattle.std.proofs.lemmas.Bool.Decides.{nat_tests}
@@ -13,8 +13,8 @@ use Rattle.og_runs.specs.declared.Letter.{Letter}
 use Rattle.og_runs.specs.declared.Msg.{Msg}
 use Rattle.og_runs.specs.declared.MsgId.{MsgId}
 use Rattle.og_runs.specs.declared.Seat.{Seat}
-use Rattle.og_runs.specs.Runs.{Outcome, same_id, posted, clock_after, event_of}
-use Rattle.og_runs.specs.World.{WorldRun, find, without, precedes, placed, placed_all, flight_after, seat_after, world_after, world_move, world_move_with, world_take, world_step}
+use Rattle.og_runs.specs.Runs.{Outcome, same_id, posted, clock_after}
+use Rattle.og_runs.specs.World.{WorldRun, find, without, precedes, placed, placed_all, flight_after, seat_after, world_move, world_move_with, world_take, world_step}
 use Rattle.og_msg.specs.declared.Kind.{Kind}
 use Rattle.og_msg.specs.declared.Note.{Note}
 use Rattle.og_msg.specs.Kinds.{line_of as message_line}
@@ -23,8 +23,8 @@ use Rattle.og_node.specs.Node.{NodeState, is_for_home, take_by}
 use Rattle.og_mover.specs.Table.{is_low_line}
 use Rattle.og_machine.specs.Machine.{Setup, ActorState, Node, Mover, Machine, Gives as Given, rules, by_node, new_seat, start_node, start_mover, start_machine, can_act, acting, taking, where_enabled, has_row, act_of, take_of}
 use Rattle.og_processor.specs.Sound.{IsLow}
-use Rattle.og_stores.specs.Stores.{HasFew, FewInKind, FewInHome, FewInJob, FewInActor, FewInMachine}
-use Rattle.og_stores.specs.Laws.{RunsTo, AreLow, StoresAreBounded, LinesAreLow, SentLinesAreLow}
+use Rattle.og_stores.specs.Stores.{HasFew, FewInKind, FewInHome, FewInJob, FewInActor}
+use Rattle.og_stores.specs.Laws.{RunsTo, StoresAreBounded, LinesAreLow, SentLinesAreLow}
 use Rattle.og_stores.proofs.Letters.{FewInLetters, more_line, more_letters}
 use Rattle.og_stores.proofs.Processors.{Few, few_seen, more, act_gives, take_gives, start_few}
 use Rattle.og_stores.proofs.Homes.{serve_few, start_home_few}

@@ -1,5 +1,5 @@
 -- The mover copies lines: its message's into its job, and its job's into a letter.
-use Rattle.std.proofs.Common.{◌≡◌, ◌∙◌, ◌≤◌, ◌+◌, ℕ, Bool, true, false, cond, nat_eq, Option, None, Some, [], ◌∷◌, map, refl, sym, subst, arith}
+use Rattle.std.proofs.Common.{◌≤◌, ◌+◌, ℕ, Bool, true, false, cond, nat_eq, Option, None, Some, [], arith}
 use Rattle.og_base.specs.declared.Frame.{Frame}
 use Rattle.og_base.specs.declared.VPage.{VPage}
 use Rattle.og_base.specs.declared.Hot.{Hot}
@@ -14,7 +14,6 @@ use Rattle.og_msg.specs.declared.Kind.TheVariants.{Nak, InvalAck, PoisonReply, C
 use Rattle.og_msg.specs.declared.Kind.TheVariants as kind
 use Rattle.og_pager.specs.PageTable.{page_of, least_free, oldest, walk_of, dropped}
 use Rattle.og_mover.specs.declared.Reply.{Reply}
-use Rattle.og_mover.specs.declared.Received.{Received}
 use Rattle.og_mover.specs.declared.Route.{Route}
 use Rattle.og_mover.specs.declared.Phase.{Phase}
 use Rattle.og_mover.specs.declared.Phase.TheVariants.{Ask, Collect, Hold, Wait, Publish}
@@ -22,7 +21,7 @@ use Rattle.og_mover.specs.declared.Clearing.{Clearing}
 use Rattle.og_mover.specs.declared.Clearing.TheVariants.{Tell, Gather, Clean, Cleaning}
 use Rattle.og_mover.specs.declared.Job.{Job}
 use Rattle.og_mover.specs.declared.Job.TheVariants.{Idle, Move, Reclaim}
-use Rattle.og_mover.specs.Table.{MoverState, Done, to, with_pages, with_job, in_phase, is_unheld, act_in_phase, act_in_clearing, act_by, act_of, holders_rising, gathered, gathered_by, collect_ended, collected, collected_in, collected_by, reply_in_phase, reply_taken, ack_in_phase, ack_taken, refusal_in_phase, refusal_taken, copied_in_phase, copied_taken, dropped_in_clearing, dropped_taken, freed_in_clearing, freed_taken, walk_row, walk_answered, hot_row, noticed, judged, decided, move_begun, after_refusal, reclaim_begun, kind_taken, take_of, first_mover}
+use Rattle.og_mover.specs.Table.{MoverState, Done, to, with_pages, with_job, in_phase, is_unheld, act_in_phase, act_in_clearing, act_by, act_of, holders_rising, gathered, gathered_by, collect_ended, collected, collected_in, collected_by, reply_taken, ack_taken, refusal_taken, copied_taken, dropped_taken, freed_taken, walk_answered, noticed, judged, decided, move_begun, after_refusal, reclaim_begun, kind_taken, take_of, first_mover}
 use Rattle.og_stores.specs.Stores.{FewInKind, FewInReply, FewInPhase, FewInJob}
 use Rattle.og_stores.proofs.Letters.{FewInLetters, told_letters}
 

@@ -1,7 +1,7 @@
 -- A processor's event makes one access at most: where its lines and its message's have at most n stores, those that it has and sends
 -- afterwards have at most one more.
-use Rattle.std.proofs.Common.{◌≡◌, ◌+◌, ◌≤◌, ℕ, Bool, true, false, ◌&&◌, Option, None, Some, refl, [], ◌∷◌, ap, subst, sym, arith}
-use Rattle.std.specs.Prelude.{if◌then◌else◌, option_map, is_some}
+use Rattle.std.proofs.Common.{◌≡◌, ◌+◌, ◌≤◌, ℕ, Bool, true, false, ◌&&◌, Option, None, Some, refl, [], ◌∷◌, subst, sym, arith}
+use Rattle.std.specs.Prelude.{if◌then◌else◌, option_map}
 use Rattle.og_base.specs.declared.Block.{Block}
 use Rattle.og_base.specs.declared.Frame.{Frame}
 use Rattle.og_base.specs.declared.Settings.{Settings}
@@ -13,10 +13,9 @@ use Rattle.og_line.specs.declared.Access.{Access}
 use Rattle.og_line.specs.Access.{addr_of}
 use Rattle.og_msg.specs.declared.Kind.{Kind}
 use Rattle.og_msg.specs.declared.Kind.TheVariants.{SharedReply, SpecReply, ExclusiveReply, UpgradeReply, Nak, PoisonError, SharedResponse, ExclusiveResponse, OwnerAck, Invalidate, InterveneShared, InterveneEx, IntervenePoison, InvalAck, WbAck, WbBusyAck, Walked, WalkRetry, DropFrame, Dropped}
-use Rattle.og_msg.specs.declared.Kind.TheVariants as kind
 use Rattle.og_image.specs.Image.{ImageState}
 use Rattle.og_cache.specs.declared.CachedBlock.{CachedBlock}
-use Rattle.og_cache.specs.Cache.{Cached, look_of, mode_of, line_of, copy_of, mode_and_line, thrown_out, reserved, without}
+use Rattle.og_cache.specs.Cache.{look_of, mode_of, line_of, thrown_out, reserved}
 use Rattle.og_tlb.specs.Tlb.{look_of as frame_of, filled as tlb_filled, without_frame}
 use Rattle.og_request.specs.declared.Want.{Want}
 use Rattle.og_request.specs.declared.Want.TheVariants.{Read, ReadEx, Upgrade}
@@ -27,14 +26,14 @@ use Rattle.og_request.specs.declared.Response.{Response}
 use Rattle.og_request.specs.declared.Outcome.{Outcome}
 use Rattle.og_request.specs.declared.Outcome.TheVariants.{Waiting, Filled, Again, Poisoned}
 use Rattle.og_request.specs.Request.{Requested, new_request, received, outcome_of, outcome_by}
-use Rattle.og_owner.specs.Owner.{dirty_line_of, line_if_dirty, answers, answers_by, after_intervention, after_invalidation, invalidated, is_read}
+use Rattle.og_owner.specs.Owner.{dirty_line_of, line_if_dirty, answers, answers_by, after_intervention, invalidated, is_read}
 use Rattle.og_victim.specs.Slot.{is_slot_of, after_ack, after_intervention as slot_after}
 use Rattle.rv_hart.specs.declared.hart.Need.{Need}
 use Rattle.rv_hart.specs.declared.hart.Need.TheVariants as need
 use Rattle.rv_hart.specs.Hart.{need_of}
 use Rattle.og_processor.specs.State.{ProcessorState, Given, becomes, sends, and_then, letter, new_processor}
 use Rattle.og_processor.specs.Access.{page_of, block_in, allows, completes}
-use Rattle.og_processor.specs.Act.{act_of, by_need, walks, on_page, on_line, leaves, mode_out, throws_out, wanted, asking, asks, misses}
+use Rattle.og_processor.specs.Act.{act_of, by_need, on_page, on_line, leaves, mode_out, throws_out, wanted, asking, asks, misses}
 use Rattle.og_processor.specs.Take.{take_of, is_occupied, drops, drops_by, intervenes, is_for, holding, is_asked, settles, makes, fills, tries_again, forgets, put_line, answers_held, ends, goes_on, receives}
 use Rattle.og_processor.specs.Sound.{replied_line, responded_line, line_brought}
 use Rattle.og_stores.specs.Stores.{HasFew, FewInKind, FewInProcessor}

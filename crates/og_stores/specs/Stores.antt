@@ -1,5 +1,5 @@
 -- How many stores the lines of a machine have seen: wherever one is held, at most n.
-use Rattle.std.specs.Prelude.{◌≡◌, ℕ, ◌≤◌, Option, None, Some, IfSome, slice_get}
+use Rattle.std.specs.Prelude.{◌≡◌, ℕ, ◌≤◌, Option, Some, IfSome, slice_get}
 use Rattle.og_base.specs.declared.Block.{Block}
 use Rattle.og_line.specs.declared.Line.{Line}
 use Rattle.og_runs.specs.declared.MsgId.{MsgId}
