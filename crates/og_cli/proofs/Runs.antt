@@ -17,11 +17,10 @@ use Rattle.og_trace.specs.Text.{text_with, head_seen}
 use Rattle.og_cli.specs.Simulate.{IsSimulated}
 use Rattle.og_cli.specs.declared.exit.ImageFault.{ImageFault}
 use Rattle.og_cli.specs.declared.exit.ImageFault.TheVariants as fault
-use Rattle.og_words.specs.declared.WordsFault.{WordsFault}
-use Rattle.og_words.specs.declared.WordsFault.TheVariants as words
 use Rattle.og_io.specs.Outside.{ShelfState, SinkState, HasFile}
 use Rattle.og_base.specs.Settings.{SettingsState}
-use Rattle.og_cli.specs.Exit.{CommandEnds, JobEnds, elf_fault, frames_fault, refused_of, RunEnds, IsRunText, PrintEnds, Task, program_fault, file_image, image_fault}
+use Rattle.og_cli.specs.Run.{elf_fault, frames_fault, RunEnds, IsRunText, PrintEnds, program_fault, file_image, image_fault}
+use Rattle.og_cli.specs.Command.{JobEnds, Task}
 
 -- a file with few bytes that is a program, and for which there are frames, has no fault
 pub no_fault : (raw : Bool) (bytes : List ℕ) (settings : SettingsState) → length bytes ≤ 67108864 → program_fault raw bytes ≡ None → length (pages_of (file_image raw bytes settings.nodes)) ≤ settings.nodes * settings.frames → image_fault raw bytes settings ≡ None
@@ -66,12 +65,10 @@ module _ (raw : Bool) (bytes : List ℕ) (settings : SettingsState) (most : ℕ)
   run_ends false exit.ShelfFault run p = let e : exit.ShelfFault ≡ exit.Limit = p.0 in absurd (cc)
   run_ends true (exit.Image f) run p = let e : exit.Image f ≡ exit.Quiet = p.0 in absurd (cc)
   run_ends false (exit.Image f) run p = let e : exit.Image f ≡ exit.Limit = p.0 in absurd (cc)
-
--- words that aren't read leave all as it was
-pub refused_ends : (job : Option Task) (fault : WordsFault) (shelf : ShelfState) (old : SinkState) → (fault ≡ words.Words → job ≡ None) → (job ≡ None → fault ≡ words.Words) → CommandEnds job shelf shelf old old (refused_of fault)
-refused_ends job words.Words shelf old only all = rw (only refl) (refl, refl, refl)
-refused_ends None words.Memory shelf old only all = let e : words.Memory ≡ words.Words = all refl in absurd (cc)
-refused_ends (Some job) words.Memory shelf old only all = (refl, inl refl)
+  run_ends true (exit.Source f) run p = let e : exit.Source f ≡ exit.Quiet = p.0 in absurd (cc)
+  run_ends false (exit.Source f) run p = let e : exit.Source f ≡ exit.Limit = p.0 in absurd (cc)
+  run_ends true exit.Done run p = let e : exit.Done ≡ exit.Quiet = p.0 in absurd (cc)
+  run_ends false exit.Done run p = let e : exit.Done ≡ exit.Limit = p.0 in absurd (cc)
 
 -- ------------------------------------------------------------ a file that isn't too long
 
@@ -115,3 +112,5 @@ file_ends task bytes shelf after old new (exit.Image (fault.NoFrames need have))
 file_ends task bytes shelf after old new exit.Words built same file short ends = elim ends [ ]
 file_ends task bytes shelf after old new exit.NotBuilt built same file short ends = elim ends [ ]
 file_ends task bytes shelf after old new exit.ShelfFault built same file short ends = elim ends [ ]
+file_ends task bytes shelf after old new (exit.Source f) built same file short ends = elim ends [ ]
+file_ends task bytes shelf after old new exit.Done built same file short ends = elim ends [ ]

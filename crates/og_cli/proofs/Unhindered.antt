@@ -1,5 +1,5 @@
--- A command that nothing hinders ends with its run, or for want of memory.
-use Rattle.std.proofs.Common.{nat_lt, ◌≡◌, ℕ, ◌+◌, ◌^◌, ◌-◌, ◌<◌, true, false, List, [], ◌∷◌, ◌++◌, length, Option, Some, None, inl, inr, arith, refl, ap, length-append}
+-- A command that nothing hinders does what was asked for, or ends for want of memory.
+use Rattle.std.proofs.Common.{nat_lt, ◌≡◌, ℕ, ◌+◌, ◌^◌, ◌-◌, ◌<◌, true, false, List, [], ◌∷◌, ◌++◌, length, ◌⊎◌, Option, Some, None, inl, inr, arith, refl, ap, length-append}
 use Rattle.std.specs.Prelude.{IsSomeAnd}
 use Rattle.std.proofs.lemmas.Bool.Decides.{nat_tests}
 use Rattle.og_cli.specs.declared.exit.Exit.{Exit}
@@ -7,19 +7,9 @@ use Rattle.og_cli.specs.declared.exit.Exit.TheVariants as exit
 use Rattle.og_cli.specs.declared.exit.ImageFault.{ImageFault}
 use Rattle.og_cli.specs.declared.exit.ImageFault.TheVariants as fault
 use Rattle.og_io.specs.Outside.{ShelfState, SinkState, Files, file_of, HasFile, HasLongFile, AddsName, Rises, IsAsBefore}
-use Rattle.og_cli.specs.Exit.{CommandEnds, EndsUnhindered, HasImage, Task, image_fault}
-
--- a count that rose isn't as before
-no_rise : {A : Type 0} → (old new : ℕ) → IsAsBefore old new → Rises old new → A
-no_rise old new as_before rises = let same : new ≡ old = as_before.0 in let low : new < 2 ^ 64 - 1 = as_before.1 in absurd (omega arith)
-
--- a name that was added makes other names
-no_name : {A : Type 0} → (name : List ℕ) (old new : List (List ℕ)) → new ≡ old → AddsName name old new → A
-no_name name old new same adds =
-    let size : length new ≡ length (old ++ name ∷ []) = ap (λ (xs : List (List ℕ)). length xs) adds in
-    let more : length (old ++ name ∷ []) ≡ length old + 1 = rw length-append refl in
-    let equal : length new ≡ length old = ap (λ (xs : List (List ℕ)). length xs) same in
-    absurd (omega arith)
+use Rattle.og_cli.specs.Run.{image_fault}
+use Rattle.og_cli.specs.Command.{Asked, runs, assembles, disassembles, CommandEnds, JobEnds, EndsUnhindered, IsUnhindered, IsDone, HasImage, Task}
+use Rattle.og_cli.proofs.Files.{no_rise, no_name, source_done, image_done}
 
 -- the file of an image that is run has no fault
 no_fault : {A : Type 0} → (job : Task) (files : Option Files) (bytes : List ℕ) (f : ImageFault) → HasImage job files → HasFile files job.name bytes → image_fault job.raw bytes job.settings ≡ Some f → A
@@ -42,16 +32,24 @@ no_long_file job (Some fs) image long = at (file_of fs job.name) image long
         let wrong : image_fault job.raw b job.settings ≡ Some fault.TooLong = rw over refl in
         absurd (cc)
 
-pub ends_unhindered : (asked : Option Task) (shelf after : ShelfState) (old new : SinkState) (answer : Exit) → CommandEnds asked shelf after old new answer → EndsUnhindered asked shelf after old new answer
+-- a run that nothing hinders ends with its text
+run_done : (task : Task) (shelf after : ShelfState) (old new : SinkState) (answer : Exit) → JobEnds task shelf after old new answer → IsUnhindered (runs task) shelf after old new → IsDone (runs task) answer ⊎ (answer ≡ exit.Memory)
+run_done task shelf after old new exit.Quiet ends u = inl (inl refl)
+run_done task shelf after old new exit.Limit ends u = inl (inr refl)
+run_done task shelf after old new exit.Memory ends u = inr refl
+run_done task shelf after old new exit.Words (same, (built, (bytes, file, none))) u = elim none [ ]
+run_done task shelf after old new (exit.Source f) (same, (built, (bytes, file, none))) u = elim none [ ]
+run_done task shelf after old new exit.Done (same, (built, (bytes, file, none))) u = elim none [ ]
+run_done task shelf after old new exit.NotBuilt ends u = let yes : task.is_built ≡ true = u.accepted.0 in let no : task.is_built ≡ false = ends.1.0 in absurd (cc)
+run_done task shelf after old new exit.ShelfFault ends u = no_name task.name shelf.failed after.failed u.read (ap (λ (s : ShelfState). s.failed) ends.0)
+run_done task shelf after old new (exit.Image fault.TooLong) ends u = no_long_file task shelf.files u.accepted.1 ends.1.1
+run_done task shelf after old new (exit.Image (fault.Elf cause at)) (same, (built, (bytes, file, (wrong, kept)))) u = no_fault task shelf.files bytes (fault.Elf cause at) u.accepted.1 file wrong
+run_done task shelf after old new (exit.Image fault.Raw) (same, (built, (bytes, file, (wrong, kept)))) u = no_fault task shelf.files bytes fault.Raw u.accepted.1 file wrong
+run_done task shelf after old new (exit.Image (fault.NoFrames need have)) (same, (built, (bytes, file, (wrong, kept)))) u = no_fault task shelf.files bytes (fault.NoFrames need have) u.accepted.1 file wrong
+run_done task shelf after old new exit.SinkFault (same, (built, (bytes, file, (text, quiet, run, cut)))) u = no_rise old.faults new.faults u.written cut.1
+
+pub ends_unhindered : (asked : Option Asked) (shelf after : ShelfState) (old new : SinkState) (answer : Exit) → CommandEnds asked shelf after old new answer → EndsUnhindered asked shelf after old new answer
 ends_unhindered None shelf after old new answer ends = tt
-ends_unhindered (Some job) shelf after old new exit.Quiet ends = λ u. inl refl
-ends_unhindered (Some job) shelf after old new exit.Limit ends = λ u. inr (inl refl)
-ends_unhindered (Some job) shelf after old new exit.Memory ends = λ u. inr (inr refl)
-ends_unhindered (Some job) shelf after old new exit.Words (same, (built, (bytes, file, none))) = elim none [ ]
-ends_unhindered (Some job) shelf after old new exit.NotBuilt ends = λ u. let yes : job.is_built ≡ true = u.built in let no : job.is_built ≡ false = ends.1.0 in absurd (cc)
-ends_unhindered (Some job) shelf after old new exit.ShelfFault ends = λ u. no_name job.name shelf.failed after.failed u.read (ap (λ (s : ShelfState). s.failed) ends.0)
-ends_unhindered (Some job) shelf after old new (exit.Image fault.TooLong) ends = λ u. no_long_file job shelf.files u.image ends.1.1
-ends_unhindered (Some job) shelf after old new (exit.Image (fault.Elf cause at)) (same, (built, (bytes, file, (wrong, kept)))) = λ u. no_fault job shelf.files bytes (fault.Elf cause at) u.image file wrong
-ends_unhindered (Some job) shelf after old new (exit.Image fault.Raw) (same, (built, (bytes, file, (wrong, kept)))) = λ u. no_fault job shelf.files bytes fault.Raw u.image file wrong
-ends_unhindered (Some job) shelf after old new (exit.Image (fault.NoFrames need have)) (same, (built, (bytes, file, (wrong, kept)))) = λ u. no_fault job shelf.files bytes (fault.NoFrames need have) u.image file wrong
-ends_unhindered (Some job) shelf after old new exit.SinkFault (same, (built, (bytes, file, (text, quiet, run, cut)))) = λ u. no_rise old.faults new.faults u.written cut.1
+ends_unhindered (Some (runs task)) shelf after old new answer ends = λ u. run_done task shelf after old new answer ends u
+ends_unhindered (Some (assembles name)) shelf after old new answer ends = λ u. source_done name shelf after old new answer ends u.accepted u.read u.written
+ends_unhindered (Some (disassembles name)) shelf after old new answer ends = λ u. image_done name shelf after old new answer ends u.accepted u.read u.written

@@ -1,2 +1,5 @@
+pub mod Command
 pub mod Exit
+pub mod Run
 pub mod Simulate
+pub mod Tools

@@ -3,6 +3,7 @@
 ghost use Rattle.std.specs.Prelude.{◌≡◌};
 
 use og_elf::ElfCause;
+use rv_asm::SourceCause;
 
 /// Why an image isn't run.
 #[derive(Clone, Copy, PartialEq, Eq, Debug)]
@@ -17,6 +18,15 @@ pub enum ImageFault {
     TooLong,
 }
 
+/// Why a source isn't assembled.
+#[derive(Clone, Copy, PartialEq, Eq, Debug)]
+pub enum SourceFault {
+    /// The first line that isn't taken, from 1, and why.
+    Line { number: u64, cause: SourceCause },
+    /// A source of more than 16,777,216 bytes.
+    TooLong,
+}
+
 /// How the command ends, in the order in which it meets these answers.
 #[derive(Clone, Copy, PartialEq, Eq, Debug)]
 pub enum Exit {
@@ -28,12 +38,16 @@ pub enum Exit {
     ShelfFault,
     /// The image is refused.
     Image(ImageFault),
+    /// The source is refused.
+    Source(SourceFault),
     /// Want of memory.
     Memory,
     /// The text couldn't be written.
     SinkFault,
     /// The events were used up before the machine was quiet.
     Limit,
+    /// What was asked for was written.
+    Done,
     /// The run ended quiet.
     Quiet,
 }
@@ -46,13 +60,14 @@ impl Exit {
         ensures { result ≡ status_of self.now }
     {
         match self {
-            Exit::Quiet => 0,
+            Exit::Done | Exit::Quiet => 0,
             Exit::ShelfFault => 1,
             Exit::Words => 2,
             Exit::Limit => 3,
             Exit::Image(_) => 4,
             Exit::Memory => 5,
             Exit::NotBuilt => 9,
+            Exit::Source(_) => 12,
             Exit::SinkFault => 14,
         }
     }

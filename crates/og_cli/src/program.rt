@@ -5,7 +5,7 @@
 //! trusted here.
 
 ghost use Rattle.std.specs.Prelude.{◌≡◌, drop};
-ghost use Rattle.og_cli.specs.Exit.{EndsWithStatus, asked_of};
+ghost use Rattle.og_cli.specs.Command.{EndsWithStatus, asked_of};
 ghost use Rattle.og_io.specs.Outside.{texts};
 
 use crate::top::origin_alone;

@@ -1,10 +1,10 @@
 //! Examples compared with what is stored of them.
 //!
 //! Below stands the command; above stand programs that name examples. Of an example there are the files
-//! `NAME.hex`, its bytes with comments, `NAME.raw`, the image, and `NAME.out`, the text. An example that is
-//! named as `NAME.elf` has its image in that file, in ELF. It is run through the command, and what is found
-//! is written, a line for each example. Reading the files and the
-//! source has no contract; what is found of them has (`compare`).
+//! `NAME.asm`, its source, `NAME.raw`, the image, and `NAME.out`, the text. An example that is named as
+//! `NAME.elf` has its image in that file, in ELF, and in `NAME.hex` its bytes in hexadecimal digits with
+//! comments. The source is assembled and the image run through the command, and what is found is written,
+//! a line for each example. Reading the files has no contract; what is found of them has (`compare`).
 #![tactic(auto)]
 
 ghost use Rattle.std.specs.Prelude.{◌≡◌, ◌≢◌, ◌↔◌};
@@ -58,10 +58,9 @@ fn check(rt: &HostRuntime, name: &str) -> io::Result<Finding> {
         None => (name, "raw"),
     };
     let file = format!(in alloc; "{stem}.{ending}")?;
-    let source = fs::read_to_string(rt, format!(in alloc; "{stem}.hex")?.as_str())?;
     let image = fs::read(rt, file.as_str())?;
     let text = fs::read(rt, format!(in alloc; "{stem}.out")?.as_str())?;
-    let bytes = bytes_of(alloc, source.as_str())?;
+    let bytes = bytes_of(rt, stem, ending)?;
     let mut out = MemorySink::make(alloc, 65_536, Vec::new(alloc));
     let exit = run(rt, file, ending == "raw", &mut out)?;
     Ok(compare(&bytes, &image, exit, out.held(), &text))
@@ -93,15 +92,44 @@ fn run(rt: &HostRuntime, image: String, is_raw: bool, out: &mut MemorySink) -> i
     if is_raw {
         words.push(String::from_str(alloc, "--raw")?)?;
     }
-    let mut shelf = FileShelf::make(rt, alloc);
-    let mut err = MemorySink::make(alloc, 65_536, Vec::new(alloc));
-    Ok(origin_alone(alloc, &words, &mut shelf, out, &mut err))
+    Ok(command(rt, &words, out))
 }
 
-/// The bytes that a source writes: hexadecimal digits, with comments from `#` to the end of a line.
-fn bytes_of(alloc: Global, source: &str) -> io::Result<Vec<u8>> {
+/// Does what the words ask for, over the files of the system.
+fn command(rt: &HostRuntime, words: &[String], out: &mut MemorySink) -> Exit {
+    let alloc = rt.alloc();
+    let mut shelf = FileShelf::make(rt, alloc);
+    let mut err = MemorySink::make(alloc, 65_536, Vec::new(alloc));
+    origin_alone(alloc, words, &mut shelf, out, &mut err)
+}
+
+/// The bytes that an example's source says: those to which it assembles, or for an image in ELF those that
+/// it writes in digits.
+fn bytes_of(rt: &HostRuntime, stem: &str, ending: &str) -> io::Result<Vec<u8>> {
+    let alloc = rt.alloc();
+    if ending == "raw" {
+        assembled(rt, format!(in alloc; "{stem}.asm")?)
+    } else {
+        let digits = fs::read_to_string(rt, format!(in alloc; "{stem}.hex")?.as_str())?;
+        written(alloc, digits.as_str())
+    }
+}
+
+/// The image of the source in the file of this name.
+fn assembled(rt: &HostRuntime, source: String) -> io::Result<Vec<u8>> {
+    let alloc = rt.alloc();
+    let words = vec![in alloc; String::from_str(alloc, "assemble")?, source]?;
+    let mut image = MemorySink::make(alloc, 65_536, Vec::new(alloc));
+    match command(rt, &words, &mut image) {
+        Exit::Done => Ok(image.held().to_vec(alloc)?),
+        _ => Err(io::Error::from(io::ErrorKind::InvalidData)),
+    }
+}
+
+/// The bytes that a text writes: hexadecimal digits, with comments from `#` to the end of a line.
+fn written(alloc: Global, text: &str) -> io::Result<Vec<u8>> {
     let mut digits = String::new(alloc);
-    for line in source.lines() {
+    for line in text.lines() {
         let code = line.split('#').next().unwrap_or("");
         digits.push_str(code.trim())?;
     }

@@ -1,5 +1,6 @@
 -- How the tools end: what is read, what is written, and why a file is refused.
-use Rattle.std.specs.Prelude.{◌≡◌, ℕ, ◌≤◌, ◌⊎◌, true, false, List, [], ◌∷◌, ◌++◌, length, Result, Ok, Err, ⊤}
+use Rattle.std.specs.Prelude.{◌≡◌, ℕ, ◌<◌, ◌≤◌, ◌⊎◌, true, false, List, [], ◌∷◌, ◌++◌, length, Result, Ok, Err, ⊤}
+use Rattle.std.specs.List.{AllByRecursion}
 use Rattle.og_elf.specs.Raw.{is_raw_out}
 use Rattle.og_io.specs.Outside.{ShelfState, SinkState, HasFile, HasLongFile}
 use Rattle.rv_asm.specs.declared.source.SourceFault.TheVariants.{Line as AtLine}
@@ -10,7 +11,7 @@ use Rattle.og_tools.specs.declared.source.AssembleFault.TheVariants as assemble
 use Rattle.og_tools.specs.declared.image.DisassembleFault.{DisassembleFault}
 use Rattle.og_tools.specs.declared.image.DisassembleFault.TheVariants as disassemble
 use Rattle.og_tools.specs.Images.{raw_file, raw_words}
-use Rattle.og_tools.specs.Sinks.{with_appended, CutByFault, CutByWant}
+use Rattle.og_io.specs.Sinks.{with_appended, CutByFault, CutByWant}
 
 -- a name was added to the failed ones, and nothing else became of the shelf
 abbrev pub with_failed : ShelfState → List ℕ → ShelfState
@@ -68,3 +69,9 @@ DisassembleEnds name shelf after old new (Err disassemble.Unread) = (after ≡ w
 DisassembleEnds name shelf after old new (Err disassemble.TooLong) = (after ≡ shelf) × HasLongFile shelf.files name 67108864 × (new ≡ old)
 DisassembleEnds name shelf after old new (Err disassemble.Memory) = (after ≡ shelf) × ((new ≡ old) ⊎ ImageReadAndEnds name shelf old new (Err disassemble.Memory))
 DisassembleEnds name shelf after old new other = (after ≡ shelf) × ImageReadAndEnds name shelf old new other
+
+-- ------------------------------------------------------------------------------ from an image to a source and back
+
+-- the text of the program in a raw image, a list of bytes, assembles to the words of that program
+abbrev pub TextsAssemble : Type 0
+TextsAssemble = (file : List ℕ) → AllByRecursion (λ b. b < 256) file → is_raw_out file ≡ false → IsSource (program_text file) (raw_words file)

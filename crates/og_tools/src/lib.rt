@@ -2,9 +2,9 @@
 //! back to the text of its program.
 //!
 //! Below stand the assembler and the printer (`rv_asm`), the raw form of a program (`og_elf`), and shelves and sinks
-//! (`og_io`). Nothing stands above yet: the command has no words that lead here. This crate keeps the raw image that a
-//! program without data has (`specs/Images`), what becomes of a sink to which a text is written (`specs/Sinks`), and how
-//! the two calls end (`specs/Tools`). Each of them reads one file and writes one text.
+//! (`og_io`). Above stands the command, which has a word for each of the two calls. This crate keeps the raw image that a
+//! program without data has (`specs/Images`), and how the two calls end (`specs/Tools`). Each of them reads one file and
+//! writes one text.
 #![tactic(auto)]
 
 mod image;
@@ -15,5 +15,5 @@ mod source;
 mod tests;
 
 pub use image::{DisassembleFault, disassemble_file};
-pub use laws::images_hold_their_words;
+pub use laws::{images_hold_their_words, texts_assemble};
 pub use source::{AssembleFault, assemble_file};

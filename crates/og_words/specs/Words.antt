@@ -1,10 +1,12 @@
 -- The words of the command line, without the program's name, and what they ask for.
 --
---   simulate IMAGE     run IMAGE     replay IMAGE CHOICES     storm NUMBER
+--   simulate IMAGE     run IMAGE     replay IMAGE CHOICES     storm NUMBER     assemble SOURCE     disassemble IMAGE
 --
 -- The first word is the command. A word that begins with "--" is an option: `--name=value` in one word, or `--name`
 -- and its value in the next word, which doesn't begin with '-'. `--raw` has no value. Options stand anywhere after the
 -- command, each at most once. Every other word is one of the command's own, as many as shown; it doesn't begin with '-'.
+--
+-- `assemble` and `disassemble` have no option: "all" are the other four.
 --
 --   option           default   range                 commands
 --   --raw            off                             simulate, run, replay
@@ -32,7 +34,7 @@ use Rattle.std.specs.Str.{bytes_eq}
 use Rattle.std.specs.Str.Parse.{digits_value}
 use Rattle.og_base.specs.Settings.{SettingsState, settings_seen}
 use Rattle.og_words.specs.declared.command.Command.{Command}
-use Rattle.og_words.specs.declared.command.Command.TheVariants.{Simulate, Run, Replay, Storm}
+use Rattle.og_words.specs.declared.command.Command.TheVariants.{Simulate, Run, Replay, Storm, Assemble, Disassemble}
 use Rattle.og_words.specs.declared.command.Named.{Named}
 use Rattle.og_words.specs.declared.command.Named.TheVariants.{Nodes, Frames, Sets, Ways, Tlb, Instructions, Trigger, Sharing, Moves, Reset, Draw, Events, Loops, Rounds, Turns}
 use Rattle.og_words.specs.declared.job.Given.{Given}
@@ -50,6 +52,8 @@ command_of word =
     else if bytes_eq word (codes "run") then Some Run
     else if bytes_eq word (codes "replay") then Some Replay
     else if bytes_eq word (codes "storm") then Some Storm
+    else if bytes_eq word (codes "assemble") then Some Assemble
+    else if bytes_eq word (codes "disassemble") then Some Disassemble
     else None
 
 -- ------------------------------------------------------------------------------ options
@@ -75,6 +79,8 @@ option_of word =
 
 -- which commands have an option
 abbrev pub has_option : Command → Named → Bool
+has_option Assemble option = false
+has_option Disassemble option = false
 has_option Simulate Draw = true
 has_option other Draw = false
 has_option Simulate Events = true
@@ -89,8 +95,10 @@ has_option other Turns = false
 has_option command setting = true
 
 abbrev pub has_raw : Command → Bool
-has_raw Storm = false
-has_raw other = true
+has_raw Simulate = true
+has_raw Run = true
+has_raw Replay = true
+has_raw other = false
 
 -- the values of the options, each None where the option isn't chosen
 pub record ChosenState : Type 0 where
@@ -322,12 +330,16 @@ pub data JobState : Type 0 where
   run : (image : Text) → (raw : Bool) → SettingsState → (rounds turns : ℕ) → JobState
   replay : (image choices : Text) → (raw : Bool) → SettingsState → GivenState → JobState
   storm : (number : ℕ) → SettingsState → (loops events : ℕ) → JobState
+  assemble : (source : Text) → JobState
+  disassemble : (image : Text) → JobState
 
 abbrev pub job_seen : Job → JobState
 job_seen (job.Simulate image raw settings draw events) = simulate (string_bytes image) raw (settings_seen settings) draw events
 job_seen (job.Run image raw settings rounds turns) = run (string_bytes image) raw (settings_seen settings) rounds turns
 job_seen (job.Replay image choices raw settings given) = replay (string_bytes image) (string_bytes choices) raw (settings_seen settings) (given_seen given)
 job_seen (job.Storm number settings loops events) = storm number (settings_seen settings) loops events
+job_seen (job.Assemble source) = assemble (string_bytes source)
+job_seen (job.Disassemble image) = disassemble (string_bytes image)
 
 -- the command's own words, where there is just one, or two
 abbrev pub one_of : Option Text → Option Text → Option Text
@@ -380,11 +392,19 @@ storm_job r s =
     (number_in 0 (2 ^ 64 - 1) word))
     (one_of r.first r.second)
 
+abbrev pub assemble_job : ReadingState → Option JobState
+assemble_job r = option_map (λ source. assemble source) (one_of r.first r.second)
+
+abbrev pub disassemble_job : ReadingState → Option JobState
+disassemble_job r = option_map (λ image. disassemble image) (one_of r.first r.second)
+
 abbrev pub command_job : Command → ReadingState → GivenState → SettingsState → Option JobState
 command_job Simulate r g s = simulate_job r s
 command_job Run r g s = run_job r s
 command_job Replay r g s = replay_job r g s
 command_job Storm r g s = storm_job r s
+command_job Assemble r g s = assemble_job r
+command_job Disassemble r g s = disassemble_job r
 
 -- none where an option still waits for its value
 abbrev pub job_in : Command → ReadingState → Option JobState

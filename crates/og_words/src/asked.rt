@@ -2,7 +2,7 @@
 
 ghost use Rattle.std.specs.Prelude.{◌≡◌, ◌≤◌, ◌*◌, ◌+◌, nat_le, IfSome, option_map};
 ghost use Rattle.og_base.specs.Settings.{settings_seen};
-ghost use Rattle.og_words.specs.Words.{number_of as number_chosen, given_of as given_in, given_seen, job_seen, settings_of as settings_with, one_of as one_in, two_of as two_in, job_in as job_asked, simulate_job, run_job, replay_job, storm_job, command_job as job_of_command, default_rounds as usual_rounds, turns_of_round as turns_in_round};
+ghost use Rattle.og_words.specs.Words.{number_of as number_chosen, given_of as given_in, given_seen, job_seen, settings_of as settings_with, one_of as one_in, two_of as two_in, job_in as job_asked, simulate_job, run_job, replay_job, storm_job, assemble_job, disassemble_job, command_job as job_of_command, default_rounds as usual_rounds, turns_of_round as turns_in_round};
 ghost use Rattle.og_words.specs.Reading.{reading_seen, chosen_seen, word_seen, IsJob};
 
 use crate::command::{Command, Named};
@@ -208,6 +208,26 @@ fn storm(reading: &Reading<'_>, settings: Settings) -> Option<Job>
     })
 }
 
+fn assemble(alloc: Global, reading: &Reading<'_>) -> Asked
+    ensures { IsJob (assemble_job (reading_seen reading.now)) result }
+{
+    let Some(source) = one_of(reading) else {
+        return Ok(None);
+    };
+    let source = String::from_str(alloc, source)?;
+    Ok(Some(Job::Assemble { source }))
+}
+
+fn disassemble(alloc: Global, reading: &Reading<'_>) -> Asked
+    ensures { IsJob (disassemble_job (reading_seen reading.now)) result }
+{
+    let Some(image) = one_of(reading) else {
+        return Ok(None);
+    };
+    let image = String::from_str(alloc, image)?;
+    Ok(Some(Job::Disassemble { image }))
+}
+
 /// The job of a command with these settings.
 fn command_job(
     alloc: Global,
@@ -223,6 +243,8 @@ fn command_job(
         Command::Run => run(alloc, reading, settings),
         Command::Replay => replay(alloc, reading, given, settings),
         Command::Storm => Ok(storm(reading, settings)),
+        Command::Assemble => assemble(alloc, reading),
+        Command::Disassemble => disassemble(alloc, reading),
     }
 }
 

@@ -10,6 +10,8 @@ pub enum Command {
     Run,
     Replay,
     Storm,
+    Assemble,
+    Disassemble,
 }
 
 /// An option that takes a value, by its name.
@@ -44,6 +46,10 @@ pub(crate) fn command_of(word: &str) -> Option<Command>
         Some(Command::Replay)
     } else if word == "storm" {
         Some(Command::Storm)
+    } else if word == "assemble" {
+        Some(Command::Assemble)
+    } else if word == "disassemble" {
+        Some(Command::Disassemble)
     } else {
         None
     }
@@ -98,7 +104,7 @@ impl Command {
             Named::Events => matches!(self, Command::Simulate | Command::Storm),
             Named::Loops => matches!(self, Command::Storm),
             Named::Rounds | Named::Turns => matches!(self, Command::Run),
-            _ => true,
+            _ => !matches!(self, Command::Assemble | Command::Disassemble),
         }
     }
 
@@ -106,6 +112,6 @@ impl Command {
     pub(crate) fn has_raw(self) -> bool
         ensures { result ≡ may_be_raw self }
     {
-        !matches!(self, Command::Storm)
+        matches!(self, Command::Simulate | Command::Run | Command::Replay)
     }
 }

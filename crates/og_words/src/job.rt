@@ -66,4 +66,12 @@ pub enum Job {
         loops: u16,
         events: u32,
     },
+    /// The image of a source.
+    Assemble {
+        source: String,
+    },
+    /// The text of an image.
+    Disassemble {
+        image: String,
+    },
 }

@@ -64,6 +64,21 @@ fn words_are_refused(rt: HostRuntime) -> Result<(), Fail> {
         "run p1 --rounds 10001",
         "run p1 --rounds 10000 --turns 1000",
         "run p1 --rounds 485 --nodes 128",
+        "assemble",
+        "assemble p1 p2",
+        "assemble p1 --raw",
+        "assemble p1 --nodes 1",
+        "assemble --reset=1 p1",
+        "assemble p1 --draw 1",
+        "assemble -p1",
+        "assemble --",
+        "disassemble",
+        "disassemble p1 p2",
+        "disassemble p1 --raw",
+        "disassemble p1 --frames 64",
+        "disassemble p1 --turns=1",
+        "Assemble p1",
+        "disassembles p1",
     ];
     for line in table {
         let refused = matches!(answer_to(rt.alloc(), line)?, Err(WordsFault::Words));
@@ -184,5 +199,19 @@ fn replays_and_storms_are_read(rt: HostRuntime) -> Result<(), Fail> {
         return Err(Fail::new("another job"));
     };
     assert_eq!(rt; (number, loops, events), (u64::MAX, 1, 1_000_000));
+    Ok(())
+}
+
+/// The assembler and the printer have a file and nothing else.
+#[test]
+fn files_of_the_tools_are_read(rt: HostRuntime) -> Result<(), Fail> {
+    let Ok(Job::Assemble { source }) = answer_to(rt.alloc(), "assemble a-b.asm")? else {
+        return Err(Fail::new("another job"));
+    };
+    assert_eq!(rt; source.as_str(), "a-b.asm");
+    let Ok(Job::Disassemble { image }) = answer_to(rt.alloc(), "disassemble p=1")? else {
+        return Err(Fail::new("another job"));
+    };
+    assert_eq!(rt; image.as_str(), "p=1");
     Ok(())
 }

@@ -1,3 +1,5 @@
+mod tools;
+
 use super::*;
 use og_io::memory::{MemoryShelf, MemorySink};
 use og_io::real::StreamSink;
@@ -473,6 +475,8 @@ fn an_untold_line_changes_no_status(rt: HostRuntime) -> Result<(), Fail> {
         ("storm 7", 9),
         ("simulate missing --raw", 1),
         ("simulate store.raw --raw", 14),
+        ("assemble store.raw", 12),
+        ("disassemble store.raw", 14),
     ];
     for (line, status) in table {
         let words = words_of(alloc, line)?;

@@ -4,8 +4,9 @@ use Rattle.og_words.specs.declared.WordsFault.{WordsFault}
 use Rattle.og_words.specs.declared.WordsFault.TheVariants as words
 use Rattle.og_io.specs.Outside.{ShelfState, SinkState, texts}
 use Rattle.og_words.specs.Words.{job_seen}
-use Rattle.og_cli.specs.Exit.{IsReported, Task, task_in, asked_of, CommandEnds, EndsUnhindered, error_line, name_of}
-use Rattle.og_cli.proofs.Runs.{refused_ends}
+use Rattle.og_cli.specs.Exit.{IsReported, error_line}
+use Rattle.og_cli.specs.Command.{Asked, asked_in, asked_of, CommandEnds, EndsUnhindered, name_of}
+use Rattle.og_cli.proofs.Refused.{refused_ends}
 use Rattle.og_cli.proofs.Unhindered.{ends_unhindered}
 use Rattle.og_cli.proofs.top.origin_alone.Goals as goal
 
@@ -31,10 +32,10 @@ returns-clause-unhindered g c =
     let after : ShelfState = g.F.Shelf.seen c.perform-exit.new.shelf in
     let old : SinkState = g.K.Sink.seen c.args.out.now in
     let new : SinkState = g.K.Sink.seen c.perform-exit.new.out in
-    subst (λ (asked : Option Task). EndsUnhindered asked shelf after old new c.perform-exit.result) (sym c.in-Ok.ensures.job)
-    (ends_unhindered (Some (task_in (job_seen c.in-Ok.job))) shelf after old new c.perform-exit.result c.perform-exit.ensures.ends)
+    subst (λ (asked : Option Asked). EndsUnhindered asked shelf after old new c.perform-exit.result) (sym c.in-Ok.ensures.job)
+    (ends_unhindered (Some (asked_in (job_seen c.in-Ok.job))) shelf after old new c.perform-exit.result c.perform-exit.ensures.ends)
 
 pub returns-clause-reported : goal.returns-clause-reported
 returns-clause-reported g c =
-    let name : c.file_of.result.now ≡ name_of (asked_of (texts c.args.words.now)) = c.file_of.ensures ∙ sym (ap (λ (j : Option Task). name_of j) c.in-Ok.ensures.job) in
+    let name : c.file_of.result.now ≡ name_of (asked_of (texts c.args.words.now)) = c.file_of.ensures ∙ sym (ap (λ (j : Option Asked). name_of j) c.in-Ok.ensures.job) in
     subst (λ (n : List ℕ). IsReported (error_line n c.perform-exit.result) (g.E.Sink.seen c.args.err.now) (g.E.Sink.seen c.report.new.err)) name c.report.ensures

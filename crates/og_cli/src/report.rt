@@ -1,0 +1,128 @@
+//! The one line on the standard error that tells an answer.
+
+ghost use Rattle.std.specs.Prelude.{◌≡◌};
+ghost use Rattle.og_io.specs.Outside.{parts_text};
+ghost use Rattle.og_cli.specs.Exit.{cause_text, fault_text, line_cause_text, source_text, error_line, IsReported};
+
+use crate::exit::{Exit, ImageFault, SourceFault};
+use itoa::Buffer;
+use og_elf::ElfCause;
+use og_io::{Sink, write_parts};
+use rv_asm::SourceCause;
+
+/// Writes a line in parts; a failure changes nothing else.
+fn report_parts<E: Sink>(parts: &[&[u8]], err: &mut E)
+    ensures { IsReported (parts_text parts.now) (E.seen err.old) (E.seen err.new) }
+{
+    let _told = write_parts(err, parts);
+}
+
+/// The name of a cause.
+fn cause_name(cause: ElfCause) -> &'static str
+    ensures { result.now ≡ cause_text cause }
+{
+    match cause {
+        ElfCause::NotElf => "NotElf",
+        ElfCause::NotClass64 => "NotClass64",
+        ElfCause::NotLittle => "NotLittle",
+        ElfCause::NotExec => "NotExec",
+        ElfCause::NotRiscv => "NotRiscv",
+        ElfCause::HeaderOut => "HeaderOut",
+        ElfCause::SegmentOut => "SegmentOut",
+        ElfCause::Overlap => "Overlap",
+        ElfCause::WritableText => "WritableText",
+        ElfCause::NoEntry => "NoEntry",
+        ElfCause::TooLarge => "TooLarge",
+    }
+}
+
+/// Writes the fault of an ELF file, and where it is.
+fn report_elf<E: Sink>(cause: ElfCause, at: u64, err: &mut E)
+    ensures { IsReported (fault_text (ImageFault.Elf cause at)) (E.seen err.old) (E.seen err.new) }
+{
+    let mut buffer = Buffer::new();
+    let offset = buffer.format(at).as_bytes();
+    let name = cause_name(cause).as_bytes();
+    report_parts(&[b"origin: image ", name, b" at ", offset, b"\n"], err);
+}
+
+/// Writes why an image is refused.
+fn report_fault<E: Sink>(fault: ImageFault, err: &mut E)
+    ensures { IsReported (fault_text fault) (E.seen err.old) (E.seen err.new) }
+{
+    match fault {
+        ImageFault::Elf { cause, at } => report_elf(cause, at, err),
+        ImageFault::Raw => report_parts(&[b"origin: image RawOut", b"\n"], err),
+        ImageFault::TooLong => report_parts(&[b"origin: image TooLong", b"\n"], err),
+        ImageFault::NoFrames { need, have } => {
+            let mut first = Buffer::new();
+            let mut second = Buffer::new();
+            let need = first.format(need).as_bytes();
+            let have = second.format(have).as_bytes();
+            report_parts(
+                &[
+                    b"origin: image NoFrames need ",
+                    need,
+                    b" have ",
+                    have,
+                    b"\n",
+                ],
+                err,
+            );
+        }
+    }
+}
+
+/// The name of why a line of a source isn't taken.
+fn line_cause_name(cause: SourceCause) -> &'static str
+    ensures { result.now ≡ line_cause_text cause }
+{
+    match cause {
+        SourceCause::Syntax => "Syntax",
+        SourceCause::Name => "Name",
+        SourceCause::Operands => "Operands",
+        SourceCause::Register => "Register",
+        SourceCause::Twice => "Twice",
+        SourceCause::Label => "Label",
+        SourceCause::Range => "Range",
+        SourceCause::Size => "Size",
+    }
+}
+
+/// Writes which line of a source isn't taken, and why.
+fn report_line<E: Sink>(number: u64, cause: SourceCause, err: &mut E)
+    ensures { IsReported (source_text (SourceFault.Line number cause)) (E.seen err.old) (E.seen err.new) }
+{
+    let mut buffer = Buffer::new();
+    let line = buffer.format(number).as_bytes();
+    let name = line_cause_name(cause).as_bytes();
+    report_parts(&[b"origin: source line ", line, b" ", name, b"\n"], err);
+}
+
+/// Writes why a source isn't assembled.
+fn report_source<E: Sink>(fault: SourceFault, err: &mut E)
+    ensures { IsReported (source_text fault) (E.seen err.old) (E.seen err.new) }
+{
+    match fault {
+        SourceFault::Line { number, cause } => report_line(number, cause, err),
+        SourceFault::TooLong => report_parts(&[b"origin: source TooLong", b"\n"], err),
+    }
+}
+
+/// Writes the one line that tells the answer.
+pub(crate) fn report<E: Sink>(exit: &Exit, name: &str, err: &mut E)
+    ensures { IsReported (error_line name.now exit.now) (E.seen err.old) (E.seen err.new) }
+{
+    match *exit {
+        Exit::Words => report_parts(&[b"origin: words", b"\n"], err),
+        Exit::NotBuilt => report_parts(&[b"origin: not built", b"\n"], err),
+        Exit::ShelfFault => {
+            report_parts(&[b"origin: cannot read ", name.as_bytes(), b"\n"], err);
+        }
+        Exit::Image(fault) => report_fault(fault, err),
+        Exit::Source(fault) => report_source(fault, err),
+        Exit::Memory => report_parts(&[b"origin: memory", b"\n"], err),
+        Exit::SinkFault => report_parts(&[b"origin: cannot write", b"\n"], err),
+        Exit::Limit | Exit::Done | Exit::Quiet => {}
+    }
+}

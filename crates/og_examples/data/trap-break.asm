@@ -1,0 +1,2 @@
+# A breakpoint.
+    ebreak

@@ -1,0 +1,2 @@
+# A jump to itself: it uses up its events.
+    jal zero, 0
