@@ -1,0 +1,43 @@
+use Rattle.std.proofs.Common.{◌≡◌, ◌∙◌, ◌≤◌, length, arith, sym, subst}
+use Rattle.og_flight.specs.Flight.{Flying}
+use Rattle.og_msg.specs.declared.Kind.{Kind}
+use Rattle.og_mover.specs.Table.{take_of as mover_take}
+use Rattle.og_engine.specs.Kept.{KeptMachine, HaveRoom}
+use Rattle.og_engine.proofs.Takes.{mover_may_take, mover_took_as, not_found, left_is}
+use Rattle.og_engine.proofs.Machine.mover_takes.Goals as goal
+
+pub returns-in_default-clause-refused : goal.returns-in_default-clause-refused
+returns-in_default-clause-refused c =
+    let k : KeptMachine = record { settings = c.self.inside.settings; nodes = c.self.inside.nodes.items; mover = c.self.inside.mover; flight = c.self.inside.flight; events = c.self.inside.events; ready = c.self.inside.ready; running = c.self.inside.running } in
+    let le : c.args.actor ≤ length c.args.self.now.nodes = let at : c.args.actor ≡ length c.args.self.now.nodes = c.requires.mover in omega arith in
+    not_found c.args.image.now k c.args.self.now c.args.actor c.args.id c.take.result c.self.view_is le c.take.ensures.taken c.in_default.is
+
+pub take_of_mover-event-requires-clause-row : goal.take_of_mover-event-requires-clause-row
+take_of_mover-event-requires-clause-row c =
+    let k : KeptMachine = record { settings = c.self.inside.settings; nodes = c.self.inside.nodes.items; mover = c.self.inside.mover; flight = c.self.inside.flight; events = c.self.inside.events; ready = c.self.inside.ready; running = c.self.inside.running } in
+    (mover_may_take c.args.image.now k c.args.self.now c.args.actor c.args.id c.take.result c.in-Some.message c.self.view_is c.requires.made c.requires.young c.requires.mover c.take.ensures.taken c.in-Some.is).row
+
+pub take_of_mover-event-requires-clause-young : goal.take_of_mover-event-requires-clause-young
+take_of_mover-event-requires-clause-young c =
+    let k : KeptMachine = record { settings = c.self.inside.settings; nodes = c.self.inside.nodes.items; mover = c.self.inside.mover; flight = c.self.inside.flight; events = c.self.inside.events; ready = c.self.inside.ready; running = c.self.inside.running } in
+    (mover_may_take c.args.image.now k c.args.self.now c.args.actor c.args.id c.take.result c.in-Some.message c.self.view_is c.requires.made c.requires.young c.requires.mover c.take.ensures.taken c.in-Some.is).young
+
+pub take_of_mover-event-requires-clause-room : goal.take_of_mover-event-requires-clause-room
+take_of_mover-event-requires-clause-room c =
+    let k : KeptMachine = record { settings = c.self.inside.settings; nodes = c.self.inside.nodes.items; mover = c.self.inside.mover; flight = c.self.inside.flight; events = c.self.inside.events; ready = c.self.inside.ready; running = c.self.inside.running } in
+    subst (λ (f : Flying Kind). HaveRoom c.in-Some.message.to c.self.inside.mover.next (mover_take c.self.inside.mover.local c.in-Some.message).letters f) (sym (left_is c.args.actor c.args.id c.self.inside.flight c.take.new.self c.take.result c.in-Some.message c.take.ensures.taken c.in-Some.is c.take.ensures.left)) (mover_may_take c.args.image.now k c.args.self.now c.args.actor c.args.id c.take.result c.in-Some.message c.self.view_is c.requires.made c.requires.young c.requires.mover c.take.ensures.taken c.in-Some.is).room
+
+pub returns-clause-refused : goal.returns-clause-refused
+returns-clause-refused c =
+    let k : KeptMachine = record { settings = c.self.inside.settings; nodes = c.self.inside.nodes.items; mover = c.self.inside.mover; flight = c.self.inside.flight; events = c.self.inside.events; ready = c.self.inside.ready; running = c.self.inside.running } in
+    sym (mover_took_as c.args.image.now k c.args.self.now c.args.actor c.args.id c.take.result c.in-Some.message c.take_of_mover-event.new.seat c.take.new.self c.take_of_mover-event.new.flight c.take_of_mover-event.result c.self.view_is c.requires.made c.requires.mover c.take.ensures.taken c.in-Some.is c.take.ensures.left c.take_of_mover-event.ensures.moves).free
+
+pub returns-clause-made : goal.returns-clause-made
+returns-clause-made c =
+    let k : KeptMachine = record { settings = c.self.inside.settings; nodes = c.self.inside.nodes.items; mover = c.self.inside.mover; flight = c.self.inside.flight; events = c.self.inside.events; ready = c.self.inside.ready; running = c.self.inside.running } in
+    (mover_took_as c.args.image.now k c.args.self.now c.args.actor c.args.id c.take.result c.in-Some.message c.take_of_mover-event.new.seat c.take.new.self c.take_of_mover-event.new.flight c.take_of_mover-event.result c.self.view_is c.requires.made c.requires.mover c.take.ensures.taken c.in-Some.is c.take.ensures.left c.take_of_mover-event.ensures.moves).step
+
+pub returns-clause-stays_made : goal.returns-clause-stays_made
+returns-clause-stays_made c =
+    let k : KeptMachine = record { settings = c.self.inside.settings; nodes = c.self.inside.nodes.items; mover = c.self.inside.mover; flight = c.self.inside.flight; events = c.self.inside.events; ready = c.self.inside.ready; running = c.self.inside.running } in
+    (mover_took_as c.args.image.now k c.args.self.now c.args.actor c.args.id c.take.result c.in-Some.message c.take_of_mover-event.new.seat c.take.new.self c.take_of_mover-event.new.flight c.take_of_mover-event.result c.self.view_is c.requires.made c.requires.mover c.take.ensures.taken c.in-Some.is c.take.ensures.left c.take_of_mover-event.ensures.moves).made

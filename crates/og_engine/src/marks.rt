@@ -1,0 +1,37 @@
+//! A mark for each node, in one word: which nodes may act, and which harts still run.
+
+ghost use Rattle.std.specs.Prelude.{◌≡◌, ℕ, ◌<◌, ◌≤◌, nat_eq, if◌then◌else◌};
+ghost use Rattle.og_engine.specs.Marks.{is_marked, marks_below};
+
+use og_base::{ActorId, NodeId};
+
+/// The marks, with this one set or not.
+pub(crate) fn with_mark(marks: u128, node: NodeId, on: bool) -> u128
+    requires { node < 128 }
+    ensures { (k : ℕ) → is_marked result k ≡ (if nat_eq k node then on else is_marked marks k) }
+{
+    if on {
+        marks | 1 << node
+    } else {
+        marks & !(1 << node)
+    }
+}
+
+/// Whether a node is marked.
+pub(crate) fn has_mark(marks: u128, node: NodeId) -> bool
+    ensures { result ≡ is_marked marks node }
+{
+    node < 128 && marks >> node & 1 == 1
+}
+
+/// How many nodes below this actor are marked.
+pub(crate) fn count_below(marks: u128, actor: ActorId) -> u32
+    requires { actor ≤ 128 }
+    ensures count { result ≡ marks_below marks actor }
+    ensures few { result ≤ 128 }
+{
+    if actor >= 128 {
+        return marks.count_ones();
+    }
+    (marks & ((1 << actor) - 1)).count_ones()
+}

@@ -1,0 +1,294 @@
+//! One event of the machine: an act, or the take of a message, of one actor.
+
+ghost use Rattle.std.specs.Prelude.{◌≡◌, ℕ, ◌+◌, ◌<◌, ◌≤◌, ◌^◌, length, Some, None, IfOk, OnOk, OnErr, IsTrue};
+ghost use Rattle.std.specs.Result.{result_err};
+ghost use Rattle.og_runs.specs.declared.Choice.TheVariants.{Act, Take};
+ghost use Rattle.og_runs.specs.World.{world_step};
+ghost use Rattle.og_node.specs.Kept.{node_of};
+ghost use Rattle.og_node.specs.Node.{act_of as node_act, take_of as node_take, HasRow};
+ghost use Rattle.og_mover.specs.Table.{act_of as mover_act, take_of as mover_take, has_act, has_table_row};
+ghost use Rattle.og_processor.specs.Act.{may_act};
+ghost use Rattle.og_processor.specs.Sound.{IsSound, IsLowProcessor, IsLowKind};
+ghost use Rattle.og_machine.specs.Machine.{rules, refusal_of, by_node, by_mover};
+ghost use Rattle.og_engine.specs.Kept.{machine_of, setup_in, node_seat, mover_seat, IsMade, Moves, HaveRoom, with_letters};
+
+use crate::marks::with_mark;
+use crate::{Machine, runs};
+use og_base::{ActorId, Choice, MsgId, NotEnabled, Stamp, act_stamp, take_stamp};
+use og_flight::Flight;
+use og_image::Image;
+use og_mover::Mover;
+use og_msg::{Event, Kind, Msg, Outbox};
+use og_node::Node;
+use og_runs::Seat;
+
+/// Ends an event of an actor: its letters go into flight, and its clock becomes the event's.
+fn end_event<A>(seat: &mut Seat<A>, flight: &mut Flight<Kind>, stamp: Stamp, out: &Outbox)
+    requires room { HaveRoom stamp.actor seat.old.next out.now flight.old }
+    ensures seat { seat.new ≡ record seat.old { clock = stamp.clock; next = seat.old.next + length out.now } }
+    ensures flight { flight.new ≡ with_letters stamp.actor stamp.clock seat.old.next out.now flight.old }
+    ensures few { length out.now ≤ 132 }
+{
+    let letters = out.letters();
+    flight.post(stamp, seat.next, letters);
+    seat.clock = stamp.clock;
+    seat.next += letters.len() as u64;
+}
+
+/// A node's own next event.
+fn act_of_node(
+    seat: &mut Seat<Node>,
+    flight: &mut Flight<Kind>,
+    out: &mut Outbox,
+    image: &Image,
+    actor: ActorId,
+) -> Event
+    requires enabled { may_act image.now seat.old.local.processor ≡ Ok tt }
+    requires low { IsLowProcessor seat.old.local.processor }
+    requires young { seat.old.clock < 2 ^ 63 }
+    requires room { HaveRoom actor seat.old.next (node_act image.now (node_of seat.old.local)).letters flight.old }
+    ensures moves { Moves actor None (by_node (node_act image.now (node_of seat.old.local))) (node_seat seat.old) (node_seat seat.new) flight.old flight.new result }
+{
+    out.clear();
+    let stamp = act_stamp(seat.clock, actor);
+    let note = seat.local.act(image, out);
+    end_event(seat, flight, stamp, out);
+    Event {
+        choice: Choice::Act(actor),
+        stamp,
+        note,
+    }
+}
+
+/// The mover's own next event.
+fn act_of_mover(
+    seat: &mut Seat<Mover>,
+    flight: &mut Flight<Kind>,
+    out: &mut Outbox,
+    actor: ActorId,
+) -> Event
+    requires enabled { IsTrue (has_act seat.old.local.job) }
+    requires young { seat.old.clock < 2 ^ 63 }
+    requires room { HaveRoom actor seat.old.next (mover_act seat.old.local).letters flight.old }
+    ensures moves { Moves actor None (by_mover (mover_act seat.old.local)) (mover_seat seat.old) (mover_seat seat.new) flight.old flight.new result }
+{
+    out.clear();
+    let stamp = act_stamp(seat.clock, actor);
+    let note = seat.local.act(out);
+    end_event(seat, flight, stamp, out);
+    Event {
+        choice: Choice::Act(actor),
+        stamp,
+        note,
+    }
+}
+
+/// The event in which a node takes a message, which has left the flight.
+fn take_of_node(
+    seat: &mut Seat<Node>,
+    flight: &mut Flight<Kind>,
+    out: &mut Outbox,
+    image: &Image,
+    message: &Msg,
+) -> Event
+    requires row { HasRow (node_of seat.old.local) message.now }
+    requires sound { IsSound image.now seat.old.local.processor }
+    requires low { IsLowProcessor seat.old.local.processor }
+    requires low_message { IsLowKind message.now.kind }
+    requires nodes { (node_of seat.old.local).home.rules.nodes ≤ 128 }
+    requires young { (seat.old.clock < 2 ^ 63) × (message.now.stamp.clock < 2 ^ 63) }
+    requires room { HaveRoom message.now.to seat.old.next (node_take image.now (node_of seat.old.local) message.now).letters flight.old }
+    ensures moves { Moves message.now.to (Some message.now) (by_node (node_take image.now (node_of seat.old.local) message.now)) (node_seat seat.old) (node_seat seat.new) flight.old flight.new result }
+{
+    out.clear();
+    let stamp = take_stamp(seat.clock, message.stamp, message.to);
+    let note = seat.local.take(image, message, out);
+    end_event(seat, flight, stamp, out);
+    Event {
+        choice: Choice::Take(message.to, message.id),
+        stamp,
+        note,
+    }
+}
+
+/// The event in which the mover takes a message, which has left the flight.
+fn take_of_mover(
+    seat: &mut Seat<Mover>,
+    flight: &mut Flight<Kind>,
+    out: &mut Outbox,
+    message: &Msg,
+) -> Event
+    requires row { IsTrue (has_table_row seat.old.local message.now) }
+    requires young { (seat.old.clock < 2 ^ 63) × (message.now.stamp.clock < 2 ^ 63) }
+    requires room { HaveRoom message.now.to seat.old.next (mover_take seat.old.local message.now).letters flight.old }
+    ensures moves { Moves message.now.to (Some message.now) (by_mover (mover_take seat.old.local message.now)) (mover_seat seat.old) (mover_seat seat.new) flight.old flight.new result }
+{
+    out.clear();
+    let stamp = take_stamp(seat.clock, message.stamp, message.to);
+    let note = seat.local.take(message, out);
+    end_event(seat, flight, stamp, out);
+    Event {
+        choice: Choice::Take(message.to, message.id),
+        stamp,
+        note,
+    }
+}
+
+impl Machine {
+    /// Makes one event. It takes no memory; after a refusal nothing has changed.
+    pub fn step(&mut self, image: &Image, choice: Choice) -> Result<Event, NotEnabled>
+        requires made { IsMade image.now self.old }
+        requires young { self.old.events < 2 ^ 55 }
+        ensures refused { result_err result ≡ refusal_of (setup_in image.now self.old) (machine_of self.old) choice }
+        ensures made { IfOk result (λ event. world_step (rules (setup_in image.now self.old)) (machine_of self.old) choice ≡ Some (machine_of self.new, event)) }
+        ensures settings { self.new.settings ≡ self.old.settings }
+        ensures counted { OnOk result (self.new.events ≡ self.old.events + 1) }
+        ensures unchanged { OnErr result (self.new ≡ self.old) }
+        ensures stays_made { IsMade image.now self.new }
+    {
+        match choice {
+            Choice::Act(actor) => self.act(image, actor),
+            Choice::Take(actor, id) => self.take(image, actor, id),
+        }
+    }
+
+    /// An actor's own next event.
+    fn act(&mut self, image: &Image, actor: ActorId) -> Result<Event, NotEnabled>
+        requires made { IsMade image.now self.old }
+        requires young { self.old.events < 2 ^ 55 }
+        ensures refused { result_err result ≡ refusal_of (setup_in image.now self.old) (machine_of self.old) (Act actor) }
+        ensures made { IfOk result (λ event. world_step (rules (setup_in image.now self.old)) (machine_of self.old) (Act actor) ≡ Some (machine_of self.new, event)) }
+        ensures settings { self.new.settings ≡ self.old.settings }
+        ensures counted { OnOk result (self.new.events ≡ self.old.events + 1) }
+        ensures unchanged { OnErr result (self.new ≡ self.old) }
+        ensures stays_made { IsMade image.now self.new }
+    {
+        let at = usize::from(actor);
+        if at < self.nodes.len() {
+            return self.node_acts(image, actor);
+        }
+        if at > self.nodes.len() {
+            return Err(NotEnabled::NoActor);
+        }
+        self.mover_acts(image, actor)
+    }
+
+    /// A node's own next event.
+    fn node_acts(&mut self, image: &Image, actor: ActorId) -> Result<Event, NotEnabled>
+        requires node { actor < length self.old.nodes }
+        requires made { IsMade image.now self.old }
+        requires young { self.old.events < 2 ^ 55 }
+        ensures refused { result_err result ≡ refusal_of (setup_in image.now self.old) (machine_of self.old) (Act actor) }
+        ensures made { IfOk result (λ event. world_step (rules (setup_in image.now self.old)) (machine_of self.old) (Act actor) ≡ Some (machine_of self.new, event)) }
+        ensures settings { self.new.settings ≡ self.old.settings }
+        ensures counted { OnOk result (self.new.events ≡ self.old.events + 1) }
+        ensures unchanged { OnErr result (self.new ≡ self.old) }
+        ensures stays_made { IsMade image.now self.new }
+    {
+        let at = usize::from(actor);
+        self.nodes[at].local.can_act(image)?;
+        let event = act_of_node(
+            &mut self.nodes[at],
+            &mut self.flight,
+            &mut self.out,
+            image,
+            actor,
+        );
+        let may = self.nodes[at].local.can_act(image);
+        self.ready = with_mark(self.ready, actor, may.is_ok());
+        self.running = with_mark(self.running, actor, runs(may));
+        self.events += 1;
+        Ok(event)
+    }
+
+    /// The mover's own next event.
+    fn mover_acts(&mut self, image: &Image, actor: ActorId) -> Result<Event, NotEnabled>
+        requires mover { actor ≡ length self.old.nodes }
+        requires made { IsMade image.now self.old }
+        requires young { self.old.events < 2 ^ 55 }
+        ensures refused { result_err result ≡ refusal_of (setup_in image.now self.old) (machine_of self.old) (Act actor) }
+        ensures made { IfOk result (λ event. world_step (rules (setup_in image.now self.old)) (machine_of self.old) (Act actor) ≡ Some (machine_of self.new, event)) }
+        ensures settings { self.new.settings ≡ self.old.settings }
+        ensures counted { OnOk result (self.new.events ≡ self.old.events + 1) }
+        ensures unchanged { OnErr result (self.new ≡ self.old) }
+        ensures stays_made { IsMade image.now self.new }
+    {
+        if !self.mover.local.can_act() {
+            return Err(NotEnabled::NothingToDo);
+        }
+        let event = act_of_mover(&mut self.mover, &mut self.flight, &mut self.out, actor);
+        self.events += 1;
+        Ok(event)
+    }
+
+    /// The event in which an actor takes a message.
+    fn take(&mut self, image: &Image, actor: ActorId, id: MsgId) -> Result<Event, NotEnabled>
+        requires made { IsMade image.now self.old }
+        requires young { self.old.events < 2 ^ 55 }
+        ensures refused { result_err result ≡ refusal_of (setup_in image.now self.old) (machine_of self.old) (Take actor id) }
+        ensures made { IfOk result (λ event. world_step (rules (setup_in image.now self.old)) (machine_of self.old) (Take actor id) ≡ Some (machine_of self.new, event)) }
+        ensures settings { self.new.settings ≡ self.old.settings }
+        ensures counted { OnOk result (self.new.events ≡ self.old.events + 1) }
+        ensures unchanged { OnErr result (self.new ≡ self.old) }
+        ensures stays_made { IsMade image.now self.new }
+    {
+        let at = usize::from(actor);
+        if at < self.nodes.len() {
+            return self.node_takes(image, actor, id);
+        }
+        if at > self.nodes.len() {
+            return Err(NotEnabled::NoActor);
+        }
+        self.mover_takes(image, actor, id)
+    }
+
+    /// The event in which a node takes a message.
+    fn node_takes(&mut self, image: &Image, actor: ActorId, id: MsgId) -> Result<Event, NotEnabled>
+        requires node { actor < length self.old.nodes }
+        requires made { IsMade image.now self.old }
+        requires young { self.old.events < 2 ^ 55 }
+        ensures refused { result_err result ≡ refusal_of (setup_in image.now self.old) (machine_of self.old) (Take actor id) }
+        ensures made { IfOk result (λ event. world_step (rules (setup_in image.now self.old)) (machine_of self.old) (Take actor id) ≡ Some (machine_of self.new, event)) }
+        ensures settings { self.new.settings ≡ self.old.settings }
+        ensures counted { OnOk result (self.new.events ≡ self.old.events + 1) }
+        ensures unchanged { OnErr result (self.new ≡ self.old) }
+        ensures stays_made { IsMade image.now self.new }
+    {
+        let at = usize::from(actor);
+        let Some(message) = self.flight.take(actor, id) else {
+            return Err(NotEnabled::NoMessage);
+        };
+        let event = take_of_node(
+            &mut self.nodes[at],
+            &mut self.flight,
+            &mut self.out,
+            image,
+            &message,
+        );
+        let may = self.nodes[at].local.can_act(image);
+        self.ready = with_mark(self.ready, actor, may.is_ok());
+        self.running = with_mark(self.running, actor, runs(may));
+        self.events += 1;
+        Ok(event)
+    }
+
+    /// The event in which the mover takes a message.
+    fn mover_takes(&mut self, image: &Image, actor: ActorId, id: MsgId) -> Result<Event, NotEnabled>
+        requires mover { actor ≡ length self.old.nodes }
+        requires made { IsMade image.now self.old }
+        requires young { self.old.events < 2 ^ 55 }
+        ensures refused { result_err result ≡ refusal_of (setup_in image.now self.old) (machine_of self.old) (Take actor id) }
+        ensures made { IfOk result (λ event. world_step (rules (setup_in image.now self.old)) (machine_of self.old) (Take actor id) ≡ Some (machine_of self.new, event)) }
+        ensures settings { self.new.settings ≡ self.old.settings }
+        ensures counted { OnOk result (self.new.events ≡ self.old.events + 1) }
+        ensures unchanged { OnErr result (self.new ≡ self.old) }
+        ensures stays_made { IsMade image.now self.new }
+    {
+        let Some(message) = self.flight.take(actor, id) else {
+            return Err(NotEnabled::NoMessage);
+        };
+        let event = take_of_mover(&mut self.mover, &mut self.flight, &mut self.out, &message);
+        self.events += 1;
+        Ok(event)
+    }
+}
