@@ -1,6 +1,7 @@
 -- What the marks and the messages in flight say of the enabled choices of a machine, and of its harts.
-use Rattle.std.proofs.Common.{◌≡◌, ◌∙◌, ℕ, zero, suc, ◌+◌, ◌-◌, ◌<◌, ◌≤◌, Bool, true, false, cond, nat_eq, nat_lt, arith, refl, sym, ap, subst, Option, None, Some, Ok, Err, Result, List, [], ◌∷◌, ◌++◌, length, map}
+use Rattle.std.proofs.Common.{◌≡◌, ◌≢◌, ◌∙◌, ℕ, zero, suc, ◌+◌, ◌-◌, ◌<◌, ◌≤◌, Bool, true, false, cond, nat_eq, nat_lt, arith, refl, sym, ap, subst, Option, None, Some, Ok, Err, Result, List, [], ◌∷◌, ◌++◌, length, map}
 use Rattle.std.specs.Prelude.{slice_get, is_none, is_some, if◌then◌else◌, ◌&&◌}
+use mir.Val.{bool_byte}
 use Rattle.std.specs.List.{list_all}
 use Rattle.std.specs.Result.{is_ok}
 use Rattle.std.proofs.lemmas.Bool.Decides.{nat_tests}
@@ -19,8 +20,9 @@ use Rattle.og_msg.specs.declared.Kind.{Kind}
 use Rattle.og_image.specs.Image.{ImageState}
 use Rattle.og_processor.specs.Act.{may_act}
 use Rattle.og_node.specs.Kept.{KeptNode, node_of}
-use Rattle.og_mover.specs.Table.{MoverState, has_act}
-use Rattle.og_machine.specs.Machine.{Setup, ActorState, Node, Mover, Machine, can_act, mover_may, has_stopped, is_stopped}
+use Rattle.og_victim.specs.Slot.{is_free_slot}
+use Rattle.og_mover.specs.Table.{MoverState, has_act, is_idle_job}
+use Rattle.og_machine.specs.Machine.{Setup, ActorState, Node, Mover, Machine, can_act, mover_may, has_stopped, is_at_rest, is_stopped, is_quiet}
 use Rattle.og_machine.specs.Choices.{act_by, takes_of, enabled_from, enabled_of}
 use Rattle.og_engine.specs.Marks.{is_marked, marks_below, is_ready, is_running, AreMarked}
 use Rattle.og_engine.specs.Kept.{KeptMachine, IsMade, machine_of, setup_in, node_seat, mover_seat, seats_of}
@@ -58,7 +60,7 @@ below_is_rank image kept (suc a) made le =
     let x = slice_get_some kept.nodes a (omega arith) in
     let before : choices_below kept a ≡ rank (setup_in image kept) 0 (machine_of kept).seats kept.flight.messages a = below_is_rank image kept a made (omega arith) in
     let more : rank (setup_in image kept) 0 (machine_of kept).seats kept.flight.messages (suc a) ≡ rank (setup_in image kept) 0 (machine_of kept).seats kept.flight.messages a + (if is_ok (may_act image x.0.local.processor) then 1 else 0) + length (messages_to (0 + a) kept.flight.messages) =
-        rank_more (setup_in image kept) 0 (machine_of kept).seats kept.flight.messages a (node_seat x.0) (node_sits kept a x.0 x.1) in
+    rank_more (setup_in image kept) 0 (machine_of kept).seats kept.flight.messages a (node_seat x.0) (node_sits kept a x.0 x.1) in
     let here : length (messages_to (0 + a) kept.flight.messages) ≡ length (messages_to a kept.flight.messages) = (let at : 0 + a ≡ a = omega arith in ap (λ (b : ℕ). length (messages_to b kept.flight.messages)) at) in
     let marked : is_marked kept.ready a ≡ is_ok (may_act image x.0.local.processor) = made.2.marks.ready_is a ∙ ap (is_ready image) x.1 in
     let act : one (is_marked kept.ready a) ≡ one (is_ok (may_act image x.0.local.processor)) = ap one marked in
@@ -112,7 +114,7 @@ enabled_length image kept made =
     let seats : length (machine_of kept).seats ≡ n + 1 = length_seats node_seat kept.nodes (mover_seat kept.mover) in
     let all : length (enabled_from setup 0 (machine_of kept).seats kept.flight.messages) ≡ rank setup 0 (machine_of kept).seats kept.flight.messages (suc n) = rank_all setup 0 (machine_of kept).seats kept.flight.messages (suc n) (omega arith) in
     let more : rank setup 0 (machine_of kept).seats kept.flight.messages (suc n) ≡ rank setup 0 (machine_of kept).seats kept.flight.messages n + (if is_ok (mover_may (has_act kept.mover.local.job)) then 1 else 0) + length (messages_to (0 + n) kept.flight.messages) =
-        rank_more setup 0 (machine_of kept).seats kept.flight.messages n (mover_seat kept.mover) (mover_sits kept n refl) in
+    rank_more setup 0 (machine_of kept).seats kept.flight.messages n (mover_seat kept.mover) (mover_sits kept n refl) in
     let here : length (messages_to (0 + n) kept.flight.messages) ≡ length (messages_to n kept.flight.messages) = (let at : 0 + n ≡ n = omega arith in ap (λ (b : ℕ). length (messages_to b kept.flight.messages)) at) in
     let act : one (is_ok (mover_may (has_act kept.mover.local.job))) ≡ one (has_act kept.mover.local.job) = ap one (is_ok_mover (has_act kept.mover.local.job)) in
     let below : choices_below kept n ≡ rank setup 0 (machine_of kept).seats kept.flight.messages n = below_is_rank image kept n made (omega arith) in
@@ -126,7 +128,7 @@ pub choices_more : (image : ImageState) (kept : KeptMachine) (a : ℕ) → IsMad
 choices_more image kept a made le =
     let x = seat_at image kept a made le in
     let more : rank (setup_in image kept) 0 (machine_of kept).seats kept.flight.messages (suc a) ≡ rank (setup_in image kept) 0 (machine_of kept).seats kept.flight.messages a + (if is_ok (can_act (setup_in image kept) x.0.local) then 1 else 0) + length (messages_to (0 + a) kept.flight.messages) =
-        rank_more (setup_in image kept) 0 (machine_of kept).seats kept.flight.messages a x.0 x.1 in
+    rank_more (setup_in image kept) 0 (machine_of kept).seats kept.flight.messages a x.0 x.1 in
     let here : length (messages_to (0 + a) kept.flight.messages) ≡ length (messages_to a kept.flight.messages) = (let at : 0 + a ≡ a = omega arith in ap (λ (b : ℕ). length (messages_to b kept.flight.messages)) at) in
     let act : one (is_ok (can_act (setup_in image kept) x.0.local)) ≡ one (may_act_at kept a) = ap one x.2 in
     let below : choices_below kept a ≡ rank (setup_in image kept) 0 (machine_of kept).seats kept.flight.messages a = below_is_rank image kept a made le in
@@ -258,3 +260,76 @@ stopped_is image kept count made is =
         let none : marks_below kept.running kept.settings.nodes ≡ 0 = no_marks kept.running kept.settings.nodes (λ a lt. made.2.marks.running_is a ∙ none_runs kept.nodes all a) in
         let c : count ≡ 0 = omega arith in
         absurd (grind (arith, nat_tests))
+
+-- ---- quiet
+
+pub quiet_when_rests : (kept : KeptMachine) (rests : Bool) (n : ℕ) → is_stopped (machine_of kept) ≡ true → n ≡ length kept.flight.messages → n ≡ 0 → rests ≡ list_all (λ x. is_at_rest x.local) (machine_of kept).seats → rests ≡ is_quiet (machine_of kept)
+unfolding is_quiet machine_of
+quiet_when_rests kept rests n stopped count none is =
+    let empty : nat_eq (length kept.flight.messages) 0 ≡ true = grind (arith, nat_tests) in
+    is ∙ sym (ap (λ (t : Bool). t && (nat_eq (length kept.flight.messages) 0 && list_all (λ x. is_at_rest x.local) (machine_of kept).seats)) stopped ∙ ap (λ (t : Bool). t && list_all (λ x. is_at_rest x.local) (machine_of kept).seats) empty)
+
+pub not_quiet_in_flight : (kept : KeptMachine) (n : ℕ) → is_stopped (machine_of kept) ≡ true → n ≡ length kept.flight.messages → n ≢ 0 → nat_eq n 0 ≡ is_quiet (machine_of kept)
+unfolding is_quiet machine_of
+not_quiet_in_flight kept n stopped count some =
+    let full : nat_eq (length kept.flight.messages) 0 ≡ false = grind (arith, nat_tests) in
+    let here : nat_eq n 0 ≡ false = grind (arith, nat_tests) in
+    here ∙ sym (ap (λ (t : Bool). t && (nat_eq (length kept.flight.messages) 0 && list_all (λ x. is_at_rest x.local) (machine_of kept).seats)) stopped ∙ ap (λ (t : Bool). t && list_all (λ x. is_at_rest x.local) (machine_of kept).seats) full)
+
+pub not_quiet_running : (kept : KeptMachine) (stopped : Bool) → stopped ≡ is_stopped (machine_of kept) → stopped ≡ false → stopped ≡ is_quiet (machine_of kept)
+unfolding is_quiet
+not_quiet_running kept stopped is runs = runs ∙ sym (ap (λ (t : Bool). t && (nat_eq (length (machine_of kept).flight) 0 && list_all (λ x. is_at_rest x.local) (machine_of kept).seats)) (sym is ∙ runs))
+
+-- whether all rest, from the nodes and the mover
+pub rests_by : (kept : KeptMachine) (free idle : Bool) → free ≡ list_all (λ x. is_free_slot x.local.processor.victim) kept.nodes → idle ≡ is_idle_job kept.mover.local.job → (free && idle) ≡ list_all (λ x. is_at_rest x.local) (machine_of kept).seats
+unfolding machine_of
+rests_by kept free idle free_is idle_is =
+    ap (λ (t : Bool). t && idle) free_is ∙ ap (λ (t : Bool). list_all (λ x. is_free_slot x.local.processor.victim) kept.nodes && t) idle_is ∙ sym (all_seats is_at_rest kept.nodes kept.mover)
+
+-- ---- counts and places, as the calls give them
+
+pub byte_is : (t : Bool) → bool_byte t ≡ one t
+byte_is true = refl
+byte_is false = refl
+
+pub and_false : (a b : Bool) → a ≡ false → a ≡ (a && b)
+and_false a b e = e ∙ sym (ap (λ (t : Bool). t && b) e)
+
+pub count_is : (image : ImageState) (kept : KeptMachine) (nodes act len : ℕ) → IsMade image kept → nodes ≡ marks_below kept.ready kept.settings.nodes → act ≡ one (has_act kept.mover.local.job) → len ≡ length kept.flight.messages →
+    nodes + act + len ≡ length (enabled_of (setup_in image kept) (machine_of kept))
+count_is image kept nodes act len made nodes_is act_is len_is =
+    let all : length (enabled_of (setup_in image kept) (machine_of kept)) ≡ marks_below kept.ready (length kept.nodes) + one (has_act kept.mover.local.job) + length kept.flight.messages = enabled_length image kept made in
+    let n : marks_below kept.ready (length kept.nodes) ≡ marks_below kept.ready kept.settings.nodes = ap (marks_below kept.ready) (nodes_count image kept made) in
+    omega arith
+
+-- a choice behind those of the actors below, and not behind this actor's, is this actor's
+pub is_own : (image : ImageState) (kept : KeptMachine) (a n : ℕ) → IsMade image kept → a ≤ kept.settings.nodes → (a < kept.settings.nodes → n < choices_below kept (a + 1)) → n < length (enabled_of (setup_in image kept) (machine_of kept)) →
+    n < choices_below kept a + one (may_act_at kept a) + length (messages_to a kept.flight.messages)
+is_own image kept a n made le next inside = at (nat_lt a kept.settings.nodes) refl
+  where
+    count : length kept.nodes ≡ kept.settings.nodes
+    count = nodes_count image kept made
+
+    more : rank (setup_in image kept) 0 (machine_of kept).seats kept.flight.messages (suc a) ≡ choices_below kept a + one (may_act_at kept a) + length (messages_to a kept.flight.messages)
+    more = choices_more image kept a made (let c : length kept.nodes ≡ kept.settings.nodes = count in omega arith)
+
+    at : (t : Bool) → nat_lt a kept.settings.nodes ≡ t → n < choices_below kept a + one (may_act_at kept a) + length (messages_to a kept.flight.messages)
+    at true lt =
+        let c : length kept.nodes ≡ kept.settings.nodes = count in
+        let low : a < kept.settings.nodes = grind (arith, nat_tests) in
+        let up : n < choices_below kept (a + 1) = next low in
+        let s : a + 1 ≡ suc a = omega arith in
+        let here : choices_below kept (a + 1) ≡ choices_below kept (suc a) = ap (choices_below kept) s in
+        let r : choices_below kept (suc a) ≡ rank (setup_in image kept) 0 (machine_of kept).seats kept.flight.messages (suc a) = below_is_rank image kept (suc a) made (omega arith) in
+        subst (λ (k : ℕ). n < k) (here ∙ r ∙ more) up
+    at false lt =
+        let c : length kept.nodes ≡ kept.settings.nodes = count in
+        let high : kept.settings.nodes ≤ a = grind (arith, nat_tests) in
+        let same : length kept.nodes ≡ a = omega arith in
+        let all : length (enabled_of (setup_in image kept) (machine_of kept)) ≡ rank (setup_in image kept) 0 (machine_of kept).seats kept.flight.messages (suc (length kept.nodes)) = all_choices image kept made in
+        subst (λ (k : ℕ). n < k) (all ∙ ap (λ (b : ℕ). rank (setup_in image kept) 0 (machine_of kept).seats kept.flight.messages (suc b)) same ∙ more) inside
+
+-- no choice stands before the first actor's
+pub none_before : (kept : KeptMachine) → choices_below kept 0 ≡ 0
+unfolding marks_below
+none_before kept = let none : length (messages_below 0 kept.flight.messages) ≡ 0 = none_below_zero kept.flight.messages in omega arith

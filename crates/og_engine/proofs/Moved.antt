@@ -169,15 +169,19 @@ get_set P (x ∷ xs) (suc a) y (suc b) z this all e = get_set P xs a y b z this 
 
 pub stays_made : (image : ImageState) (kept : KeptMachine) (choice : Choice) (actor : ℕ) (move : Option (Msg Kind)) (x : Seat ActorState) (made : Outcome ActorState Kind Note) (event : Event Note) (new : KeptMachine) →
     IsMade image kept → IsMove image kept choice actor move x made → IsAfter kept actor move made x event new → AreMarked image new.nodes new.ready new.running → IsMade image new
-stays_made image kept choice actor move x made event new is_made is after marked = (is_made.0 ++ choice ∷ [], is_made.1 ++ event ∷ [], record {
-  runnable = subst (λ (s : Settings). IsRunnable (setup_of image s)) (sym after.settings) is_made.2.runnable;
-  run = subst (λ (s : Settings). RunsTo (setup_of image s) (is_made.0 ++ choice ∷ []) (machine_of new) (is_made.1 ++ event ∷ [])) (sym after.settings)
-      (world_more (rules (setup_in image kept)) is_made.0 (start_machine (setup_in image kept)) (machine_of kept) (machine_of new) is_made.1 choice event is_made.2.run (step_is image kept choice actor move x made event new is after));
-  count = (let one : length (is_made.1 ++ event ∷ []) ≡ length is_made.1 + 1 = length-append is_made.1 (event ∷ []) in let count : length is_made.1 ≡ kept.events = is_made.2.count in let events : new.events ≡ kept.events + 1 = after.events in omega arith);
-  room = ap (λ (f : Flying Kind). f.room) after.moves.flight ∙ is_made.2.room ∙ ap room_of (sym after.settings);
-  numbers = λ a y there. get_set (λ (z : Seat ActorState). z.next ≤ 132 * new.events) (machine_of kept).seats actor (seat_after x move made) a y moved others (subst (λ (w : Machine). slice_get w.seats a ≡ Some y) (world_is kept actor move made x event new after) there);
-  marks = marked;
-})
+stays_made image kept choice actor move x made event new is_made is after marked = (
+  is_made.0 ++ choice ∷ [],
+  is_made.1 ++ event ∷ [],
+  record {
+    runnable = subst (λ (s : Settings). IsRunnable (setup_of image s)) (sym after.settings) is_made.2.runnable;
+    run = subst (λ (s : Settings). RunsTo (setup_of image s) (is_made.0 ++ choice ∷ []) (machine_of new) (is_made.1 ++ event ∷ [])) (sym after.settings)
+        (world_more (rules (setup_in image kept)) is_made.0 (start_machine (setup_in image kept)) (machine_of kept) (machine_of new) is_made.1 choice event is_made.2.run (step_is image kept choice actor move x made event new is after));
+    count = (let one : length (is_made.1 ++ event ∷ []) ≡ length is_made.1 + 1 = length-append is_made.1 (event ∷ []) in let count : length is_made.1 ≡ kept.events = is_made.2.count in let events : new.events ≡ kept.events + 1 = after.events in omega arith);
+    room = ap (λ (f : Flying Kind). f.room) after.moves.flight ∙ is_made.2.room ∙ ap room_of (sym after.settings);
+    numbers = λ a y there. get_set (λ (z : Seat ActorState). z.next ≤ 132 * new.events) (machine_of kept).seats actor (seat_after x move made) a y moved others (subst (λ (w : Machine). slice_get w.seats a ≡ Some y) (world_is kept actor move made x event new after) there);
+    marks = marked;
+  },
+)
   where
     moved : (seat_after x move made).next ≤ 132 * new.events
     moved =

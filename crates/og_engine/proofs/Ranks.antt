@@ -41,9 +41,6 @@ length_mapped f (x ∷ xs) = let rest : length (map f xs) ≡ length xs = length
 
 -- ---- one actor's choices
 
-
-
-
 act_by_length : (a : ℕ) (may : Result (Unit {0}) NotEnabled) → length (act_by a may) ≡ (if is_ok may then 1 else 0)
 act_by_length a (Ok u) = refl
 act_by_length a (Err why) = refl
@@ -192,3 +189,12 @@ all_below n (m ∷ ms) distinct low =
         let none : find id ms ≡ None = ap (λ (i : MsgId). find i ms) same ∙ distinct.0 in
         absurd (cc)
     later id k false is found = ap (λ (t : Bool). cond t (Some m) (find id ms)) is ∙ found
+
+-- no more than all
+pub below_few : (a : ℕ) (ms : List (Msg Kind)) → length (messages_below a ms) ≤ length ms
+below_few a [] = omega arith
+below_few a (m ∷ ms) = at (nat_lt m.to a) (below_few a ms)
+  where
+    at : (t : Bool) → length (messages_below a ms) ≤ length ms → length (cond t (m ∷ messages_below a ms) (messages_below a ms)) ≤ length (m ∷ ms)
+    at true le = omega arith
+    at false le = omega arith

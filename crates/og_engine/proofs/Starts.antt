@@ -73,17 +73,20 @@ runnable image settings ok = record {
 
 pub first_is_made : (image : ImageState) (settings : Settings) (kept : KeptMachine) → AreSettings image settings → IsFirst image settings kept → AreMarked image kept.nodes kept.ready kept.running → IsMade image kept
 first_is_made image settings kept ok is marked =
-    let same : setup_of image settings ≡ setup_in image kept = ap (setup_of image) (sym is.settings_is) in
-    ([], [], record {
-      runnable = subst IsRunnable same (runnable image settings ok);
-      run = (ap start_machine (sym same) ∙ sym (is_start image settings kept is), refl);
-      count = sym is.events;
-      room = ap (λ (f : Flying Kind). f.room) is.flight ∙ ap room_of (sym is.settings_is);
-      numbers = λ a x there.
-          let none : x.next ≡ 0 = start_next (setup_of image settings) a x (subst (λ (w : Machine). slice_get w.seats a ≡ Some x) (is_start image settings kept is) there) in
-          omega arith;
-      marks = marked;
-    })
+    let same : setup_of image settings ≡ setup_in image kept = ap (setup_of image) (sym is.settings_is) in (
+      [],
+      [],
+      record {
+        runnable = subst IsRunnable same (runnable image settings ok);
+        run = (ap start_machine (sym same) ∙ sym (is_start image settings kept is), refl);
+        count = sym is.events;
+        room = ap (λ (f : Flying Kind). f.room) is.flight ∙ ap room_of (sym is.settings_is);
+        numbers = λ a x there.
+            let none : x.next ≡ 0 = start_next (setup_of image settings) a x (subst (λ (w : Machine). slice_get w.seats a ≡ Some x) (is_start image settings kept is) there) in
+            omega arith;
+        marks = marked;
+      },
+    )
 
 -- one node more
 pub one_node_more : (setup : Setup) (n : ℕ) (xs : List (Seat KeptNode)) (x : Seat KeptNode) → map node_seat xs ≡ map (λ number. new_seat (start_node setup number)) (below n) → node_seat x ≡ new_seat (start_node setup n) →

@@ -5,7 +5,7 @@
 //! fails, and there are never more messages than room. Above stand the commands.
 //!
 //! `specs/Kept` says how a machine is kept, which machine of `og_machine` that is, and what is known of one that choices from the start
-//! lead to: the table kept here is that machine's step. All memory is taken by [`Machine::start`]. An
+//! lead to: the table kept here is that machine's step, and its enabled choices. All memory is taken by [`Machine::start`]. An
 //! event takes none, and changes one actor in its place: which nodes may act and which harts run is kept in two words, a bit for each
 //! node.
 #![tactic(auto)]
@@ -17,6 +17,7 @@ ghost use Rattle.og_machine.specs.Machine.{setup_of, start_machine, start_node, 
 ghost use Rattle.og_engine.specs.Kept.{machine_of, node_seat, IsMade};
 ghost use Rattle.og_engine.specs.Marks.{AreMarked, is_running_by};
 
+pub mod choices;
 mod marks;
 pub mod step;
 
@@ -52,7 +53,7 @@ impl Model for Machine {
     ghost use Rattle.og_node.specs.contracts.Node as node_code;
     ghost use Rattle.og_mover.specs.contracts.Mover as mover_code;
     ghost use Rattle.og_engine.specs.Marks.{AreMarked, is_running_by};
-ghost use Rattle.og_engine.specs.Kept.{KeptMachine};
+    ghost use Rattle.og_engine.specs.Kept.{KeptMachine};
 
     ghost Value = { KeptMachine };
 

@@ -20,13 +20,13 @@ make-requires c =
 pub returns-clause-start : goal.returns-clause-start
 returns-clause-start c =
     let first = first_is c.args.image.now c.args.layout.now c.args.settings.now c.in_ok-nodes.nodes.items c.in_ok-make.field-0 c.in_ok-flight.flight c.room.result c.first_marks-ready.result.0 c.first_marks-ready.result.1
-        c.requires.layout c.in_ok-nodes.ensures.seats c.in_ok-make.ensures c.in_ok-flight.ensures c.room.ensures.value in
+    c.requires.layout c.in_ok-nodes.ensures.seats c.in_ok-make.ensures c.in_ok-flight.ensures c.room.ensures.value in
     is_start c.args.image.now c.args.settings.now _ first
 
 pub returns-clause-made : goal.returns-clause-made
 returns-clause-made c =
     let first = first_is c.args.image.now c.args.layout.now c.args.settings.now c.in_ok-nodes.nodes.items c.in_ok-make.field-0 c.in_ok-flight.flight c.room.result c.first_marks-ready.result.0 c.first_marks-ready.result.1
-        c.requires.layout c.in_ok-nodes.ensures.seats c.in_ok-make.ensures c.in_ok-flight.ensures c.room.ensures.value in
+    c.requires.layout c.in_ok-nodes.ensures.seats c.in_ok-make.ensures c.in_ok-flight.ensures c.room.ensures.value in
     let s = c.args.settings.now in
     let ok : AreSettings c.args.image.now c.args.settings.now = record {
       loadable = c.stays_loadable.ensures.program;

@@ -1,0 +1,120 @@
+//! What the machine may do next: whether it has stopped and is quiet, and the enabled choices in their order.
+
+ghost use Rattle.std.specs.Prelude.{◌≡◌, ℕ, ◌+◌, ◌<◌, ◌≤◌, ◌^◌, true, length, slice_get, Some};
+ghost use Rattle.std.specs.List.{list_all};
+ghost use Rattle.og_victim.specs.Slot.{is_free_slot};
+ghost use Rattle.og_machine.specs.Machine.{is_stopped, is_quiet, is_at_rest};
+ghost use Rattle.og_machine.specs.Choices.{enabled_of};
+ghost use Rattle.og_engine.specs.Kept.{machine_of, setup_in, IsMade, WasMade};
+ghost use Rattle.og_engine.specs.Order.{may_act_at, choices_below as count_of_choices_below};
+
+use crate::Machine;
+use crate::marks::{count_below, has_mark};
+use og_base::{ActorId, Choice};
+use og_image::Image;
+use og_node::Node;
+use og_runs::Seat;
+
+impl Machine {
+    /// Whether each hart has stopped.
+    pub fn stopped(&self) -> bool
+        requires made { WasMade self.now }
+        ensures { result ≡ is_stopped (machine_of self.now) }
+    {
+        count_below(self.running, self.settings.nodes) == 0
+    }
+
+    /// Whether each hart has stopped, no message is in flight, no victim slot is taken, and the mover is idle.
+    pub fn quiet(&self) -> bool
+        requires made { WasMade self.now }
+        ensures { result ≡ is_quiet (machine_of self.now) }
+    {
+        self.stopped() && (self.flight.len() == 0 && self.rests())
+    }
+
+    /// Whether no victim slot is taken and the mover is idle.
+    fn rests(&self) -> bool
+        ensures { result ≡ list_all (λ x. is_at_rest x.local) (machine_of self.now).seats }
+    {
+        are_slots_free(&self.nodes) && self.mover.local.idle()
+    }
+
+    /// How many messages are in flight.
+    pub fn in_flight(&self) -> u32
+        ensures { result ≡ length (machine_of self.now).flight }
+    {
+        self.flight.len() as u32
+    }
+
+    /// How many choices are enabled.
+    pub fn enabled_count(&self, image: &Image) -> u32
+        requires made { IsMade image.now self.now }
+        ensures { result ≡ length (enabled_of (setup_in image.now self.now) (machine_of self.now)) }
+    {
+        let nodes = count_below(self.ready, self.settings.nodes);
+        nodes + u32::from(self.mover.local.can_act()) + self.flight.len() as u32
+    }
+
+    /// The enabled choice with this number in their order: for each actor its act, then its takes by sender and number.
+    pub fn enabled(&self, image: &Image, at: u32) -> Choice
+        requires made { IsMade image.now self.now }
+        requires inside { at < length (enabled_of (setup_in image.now self.now) (machine_of self.now)) }
+        ensures { slice_get (enabled_of (setup_in image.now self.now) (machine_of self.now)) at ≡ Some result }
+    {
+        let at = at as usize;
+        let actor = self.actor_at(at);
+        let rest = at - self.choices_below(actor);
+        let acts = usize::from(self.may_act(actor));
+        if rest < acts {
+            return Choice::Act(actor);
+        }
+        Choice::Take(actor, self.flight.nth_for(actor, rest - acts).id)
+    }
+
+    /// Whether the actor's act is enabled.
+    fn may_act(&self, actor: ActorId) -> bool
+        ensures { result ≡ may_act_at self.now actor }
+    {
+        if actor < self.settings.nodes {
+            has_mark(self.ready, actor)
+        } else {
+            self.mover.local.can_act()
+        }
+    }
+
+    /// How many choices the actors below this one have.
+    fn choices_below(&self, actor: ActorId) -> usize
+        requires { actor ≤ 128 }
+        ensures count { result ≡ count_of_choices_below self.now actor }
+        ensures few { result < 2 ^ 32 }
+    {
+        let _in_flight = self.flight.len();
+        count_below(self.ready, actor) as usize + self.flight.below(u16::from(actor))
+    }
+
+    /// The actor of the enabled choice with this number: the last one below which there are no more choices than that.
+    fn actor_at(&self, at: usize) -> ActorId
+        ensures low { count_of_choices_below self.now result ≤ at }
+        ensures high { result < self.now.settings.nodes → at < count_of_choices_below self.now (result + 1) }
+        ensures actor { result ≤ self.now.settings.nodes }
+    {
+        let mut low = 0;
+        let mut high = self.settings.nodes + 1;
+        while high - low > 1 {
+            let middle = low + (high - low) / 2;
+            if self.choices_below(middle) <= at {
+                low = middle;
+            } else {
+                high = middle;
+            }
+        }
+        low
+    }
+}
+
+/// Whether no node's victim slot is taken.
+fn are_slots_free(nodes: &[Seat<Node>]) -> bool
+    ensures { result ≡ list_all (λ x. is_free_slot x.local.processor.victim) nodes.now }
+{
+    nodes.iter().all(|seat| seat.local.victim_free())
+}
