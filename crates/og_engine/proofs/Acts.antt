@@ -1,5 +1,5 @@
 -- The act of a node, and of the mover.
-use Rattle.std.proofs.Common.{◌≡◌, ◌∙◌, ℕ, ◌+◌, ◌*◌, ◌<◌, ◌≤◌, ◌^◌, Bool, true, false, arith, refl, sym, zero, suc, cond, nat_eq, ap, subst, Option, None, Some, Ok, Err, Result, List, [], ◌∷◌, ◌++◌, length, map, get_or}
+use Rattle.std.proofs.Common.{◌≡◌, ◌∙◌, ℕ, ◌+◌, ◌<◌, ◌≤◌, ◌^◌, Bool, true, false, arith, refl, sym, zero, suc, cond, nat_eq, ap, subst, None, Some, Ok, Err, Result, List, [], ◌∷◌, length, get_or}
 use Rattle.std.specs.Prelude.{slice_get, slice_set, IsTrue, if◌then◌else◌}
 use Rattle.std.specs.Result.{is_ok, result_err, IsErrAnd}
 use Rattle.std.proofs.lemmas.Bool.Decides.{nat_tests}
@@ -21,9 +21,9 @@ use Rattle.og_processor.specs.Sound.{IsLowProcessor}
 use Rattle.og_node.specs.Kept.{KeptNode, node_of}
 use Rattle.og_node.specs.Node.{act_of as node_act}
 use Rattle.og_mover.specs.Table.{MoverState, has_act, act_of as mover_act}
-use Rattle.og_machine.specs.Machine.{Setup, ActorState, Machine, can_act, mover_may, by_node, by_mover, refusal_by, refusal_of}
+use Rattle.og_machine.specs.Machine.{ActorState, mover_may, by_node, by_mover, refusal_by, refusal_of}
 use Rattle.og_engine.specs.Marks.{AreMarked, is_marked, is_running_by}
-use Rattle.og_engine.specs.Kept.{KeptMachine, IsMade, Moves, HaveRoom, machine_of, setup_in, node_seat, mover_seat, seats_of}
+use Rattle.og_engine.specs.Kept.{KeptMachine, IsMade, Moves, HaveRoom, machine_of, setup_in, node_seat, mover_seat}
 use Rattle.og_stores.proofs.Machines.{lines_are_low}
 use Rattle.og_engine.proofs.Bits.{get_changed, marked_again}
 use Rattle.og_engine.proofs.Moved.{IsMove, IsAfter, Stepped, act_is, act_refused, no_actor_acts, clock_low, choices_count, have_room, step_is, stays_made}

@@ -1,9 +1,8 @@
 -- Marks: one that is set or cleared, how many there are, and what they say when one node has changed.
-use Rattle.std.proofs.Common.{◌≡◌, ◌≢◌, ◌∙◌, ℕ, zero, suc, ◌+◌, ◌*◌, ◌-◌, ◌^◌, ◌%◌, ◌<◌, ◌≤◌, Bool, true, false, cond, min, nat_eq, nat_lt, arith, refl, sym, ap, subst, Option, None, Some, Ok, Err, Result, List, [], ◌∷◌, length}
+use Rattle.std.proofs.Common.{◌≡◌, ◌≢◌, ◌∙◌, ℕ, zero, suc, ◌+◌, ◌*◌, ◌-◌, ◌^◌, ◌%◌, ◌<◌, ◌≤◌, Bool, true, false, cond, min, nat_eq, nat_lt, arith, refl, sym, ap, Option, None, Some, Ok, Err, Result, List, [], ◌∷◌, length}
 use Rattle.std.specs.Prelude.{slice_get, slice_set, bit_and, bit_or, count_ones, is_none, if◌then◌else◌}
 use Rattle.std.specs.Result.{is_ok}
-use Rattle.std.specs.Int.{bit_at, bit_not, Width, w128}
-use mir.Val.{bits}
+use Rattle.std.specs.Int.{bit_at, bit_not, w128}
 use lib.Count.{ones, ones_cat, ones-ones}
 use Rattle.std.proofs.Math.Nat.{mod-eq_of_lt, mod-lt}
 use Rattle.std.proofs.Math.Pow.{pow_pos}
@@ -12,7 +11,7 @@ use Rattle.std.proofs.lemmas.Nat.{and_mask, pow_below}
 use Rattle.std.proofs.lemmas.Nat.Bits.{bit_at-lt, bit_at_and, bit_at-zero, bit_at_above, bit_at_set_same, bit_at_set_other, bit_at_clear_same, bit_at_clear_other}
 use Rattle.og_base.specs.declared.Cause.{Cause}
 use Rattle.og_base.specs.declared.NotEnabled.{NotEnabled}
-use Rattle.og_base.specs.declared.NotEnabled.TheVariants.{Stopped, Outstanding, VictimBusy}
+use Rattle.og_base.specs.declared.NotEnabled.TheVariants.{VictimBusy}
 use Rattle.og_base.specs.declared.VPage.{VPage}
 use Rattle.og_runs.specs.declared.Seat.{Seat}
 use Rattle.og_sharers.specs.SetLaws.{mod-suc_bit}

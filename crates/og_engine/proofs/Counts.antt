@@ -1,13 +1,11 @@
 -- What the marks and the messages in flight say of the enabled choices of a machine, and of its harts.
-use Rattle.std.proofs.Common.{◌≡◌, ◌≢◌, ◌∙◌, ℕ, zero, suc, ◌+◌, ◌-◌, ◌<◌, ◌≤◌, Bool, true, false, cond, nat_eq, nat_lt, arith, refl, sym, ap, subst, Option, None, Some, Ok, Err, Result, List, [], ◌∷◌, ◌++◌, length, map}
+use Rattle.std.proofs.Common.{◌≡◌, ◌≢◌, ◌∙◌, ℕ, zero, suc, ◌+◌, ◌-◌, ◌<◌, ◌≤◌, Bool, true, false, nat_eq, nat_lt, arith, refl, sym, ap, subst, Option, None, Some, List, [], ◌∷◌, ◌++◌, length}
 use Rattle.std.specs.Prelude.{slice_get, is_none, is_some, if◌then◌else◌, ◌&&◌}
 use mir.Val.{bool_byte}
 use Rattle.std.specs.List.{list_all}
 use Rattle.std.specs.Result.{is_ok}
 use Rattle.std.proofs.lemmas.Bool.Decides.{nat_tests}
 use Rattle.og_base.specs.declared.Cause.{Cause}
-use Rattle.og_base.specs.declared.NotEnabled.{NotEnabled}
-use Rattle.og_runs.specs.declared.Choice.{Choice}
 use Rattle.og_runs.specs.declared.Choice.TheVariants.{Act, Take}
 use Rattle.og_runs.specs.declared.Msg.{Msg}
 use Rattle.og_runs.specs.declared.MsgId.{MsgId}
@@ -19,12 +17,12 @@ use Rattle.og_flight.specs.Flight.{messages_to, messages_below}
 use Rattle.og_msg.specs.declared.Kind.{Kind}
 use Rattle.og_image.specs.Image.{ImageState}
 use Rattle.og_processor.specs.Act.{may_act}
-use Rattle.og_node.specs.Kept.{KeptNode, node_of}
+use Rattle.og_node.specs.Kept.{KeptNode}
 use Rattle.og_victim.specs.Slot.{is_free_slot}
 use Rattle.og_mover.specs.Table.{MoverState, has_act, is_idle_job}
-use Rattle.og_machine.specs.Machine.{Setup, ActorState, Node, Mover, Machine, can_act, mover_may, has_stopped, is_at_rest, is_stopped, is_quiet}
+use Rattle.og_machine.specs.Machine.{Setup, ActorState, can_act, mover_may, has_stopped, is_at_rest, is_stopped, is_quiet}
 use Rattle.og_machine.specs.Choices.{act_by, takes_of, enabled_from, enabled_of}
-use Rattle.og_engine.specs.Marks.{is_marked, marks_below, is_ready, is_running, AreMarked}
+use Rattle.og_engine.specs.Marks.{is_marked, marks_below, is_ready, is_running}
 use Rattle.og_engine.specs.Kept.{KeptMachine, IsMade, machine_of, setup_in, node_seat, mover_seat, seats_of}
 use Rattle.og_engine.specs.Order.{may_act_at, choices_below}
 use Rattle.og_refine.proofs.Lawful.{messages_rows}

@@ -1,5 +1,5 @@
 -- What is known of each machine that choices from the start lead to, as the calls of its actors need it.
-use Rattle.std.proofs.Common.{◌≡◌, ◌∙◌, ℕ, ◌+◌, ◌<◌, ◌≤◌, ◌^◌, sym, ap, subst, Some, List, length}
+use Rattle.std.proofs.Common.{◌≡◌, ◌∙◌, ℕ, ◌+◌, sym, subst, Some, List, length}
 use Rattle.std.specs.Prelude.{slice_get}
 use Rattle.og_runs.specs.declared.Choice.{Choice}
 use Rattle.og_runs.specs.declared.Event.{Event}

@@ -1,5 +1,5 @@
 -- One event of a kept machine: what its actor's move needs, and that the machine that is kept afterwards is the one that the step leads to.
-use Rattle.std.proofs.Common.{◌≡◌, ◌∙◌, ℕ, ◌+◌, ◌*◌, ◌<◌, ◌≤◌, ◌^◌, Bool, true, false, cond, nat_eq, zero, suc, arith, refl, sym, ap, subst, length-append, max, Option, None, Some, Ok, Err, Result, List, [], ◌∷◌, ◌++◌, length, map}
+use Rattle.std.proofs.Common.{◌≡◌, ◌∙◌, ℕ, ◌+◌, ◌*◌, ◌<◌, ◌≤◌, ◌^◌, Bool, true, false, cond, nat_eq, zero, suc, arith, refl, sym, ap, subst, length-append, Option, None, Some, Ok, List, [], ◌∷◌, ◌++◌, length}
 use Rattle.std.specs.Prelude.{slice_get, slice_set, if◌then◌else◌}
 use Rattle.std.proofs.lemmas.Bool.Decides.{nat_tests}
 use Rattle.og_base.specs.declared.Settings.{Settings}
@@ -14,7 +14,7 @@ use Rattle.og_runs.specs.declared.MsgId.{MsgId}
 use Rattle.og_runs.specs.declared.Seat.{Seat}
 use Rattle.og_runs.specs.declared.Stamp.{Stamp}
 use Rattle.og_runs.specs.Runs.{Outcome, posted, choice_of, clock_after, event_of, same_id}
-use Rattle.og_runs.specs.World.{World, WorldRun, world_step, world_after, world_move_with, seat_after, flight_after, find, without, placed, placed_all}
+use Rattle.og_runs.specs.World.{World, world_step, world_after, seat_after, flight_after, find, placed, placed_all}
 use Rattle.og_runs.specs.Laws.{RunsFrom, NamesStay, ClocksWithin}
 use Rattle.og_runs.proofs.Placed.{find_without}
 use Rattle.og_runs.proofs.Stated.{names_stay, clocks_within}
@@ -26,9 +26,9 @@ use Rattle.og_msg.specs.declared.Note.{Note}
 use Rattle.og_image.specs.Image.{ImageState}
 use Rattle.og_refine.specs.Machines.{IsRunnable}
 use Rattle.og_refine.specs.Laws.{RunsTo}
-use Rattle.og_machine.specs.Machine.{Setup, setup_of, ActorState, Machine, rules, start_machine, act_of, take_of, can_act, acting, taking, has_row, where_enabled, refusal_by, act_refusal, message_refusal, take_refusal, refusal_of}
+use Rattle.og_machine.specs.Machine.{Setup, setup_of, ActorState, Machine, rules, start_machine, act_of, take_of, can_act, acting, taking, has_row, refusal_by, act_refusal, message_refusal, refusal_of}
 use Rattle.og_engine.specs.Marks.{AreMarked}
-use Rattle.og_engine.specs.Kept.{KeptMachine, MadeBy, IsMade, Moves, HaveRoom, with_letters, machine_of, setup_in, room_of, seats_of}
+use Rattle.og_engine.specs.Kept.{KeptMachine, IsMade, Moves, HaveRoom, with_letters, machine_of, setup_in, room_of, seats_of}
 use Rattle.og_refine.proofs.Runs.{first_actor, first_seats}
 use Rattle.og_refine.proofs.Lawful.{enough_room}
 

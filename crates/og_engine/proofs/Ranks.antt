@@ -1,7 +1,6 @@
 -- The enabled choices in their order: how many stand before each actor's, and which one stands where.
-use Rattle.std.proofs.Common.{◌≡◌, ◌∙◌, ℕ, zero, suc, ◌+◌, ◌-◌, ◌<◌, ◌≤◌, Bool, true, false, cond, nat_eq, nat_lt, arith, refl, sym, ap, subst, Option, None, Some, Ok, Err, Result, List, [], ◌∷◌, ◌++◌, length, map, length-append, append_assoc}
+use Rattle.std.proofs.Common.{◌≡◌, ◌∙◌, ℕ, zero, suc, ◌+◌, ◌<◌, ◌≤◌, Bool, true, false, cond, nat_eq, nat_lt, arith, refl, sym, ap, subst, None, Some, Ok, Err, Result, List, [], ◌∷◌, ◌++◌, length, map, length-append, append_assoc}
 use Rattle.std.specs.Prelude.{slice_get, if◌then◌else◌}
-use Rattle.std.specs.List.{filter}
 use Rattle.std.specs.Result.{is_ok}
 use Rattle.std.proofs.lemmas.Bool.Decides.{nat_tests}
 use Rattle.og_base.specs.declared.NotEnabled.{NotEnabled}
@@ -15,8 +14,8 @@ use Rattle.og_runs.specs.World.{find, Distinct}
 use Rattle.og_runs.proofs.Placed.{same_self, same_id_equal}
 use Rattle.og_flight.specs.Flight.{messages_to, messages_below}
 use Rattle.og_msg.specs.declared.Kind.{Kind}
-use Rattle.og_machine.specs.Machine.{Setup, ActorState, Machine, can_act}
-use Rattle.og_machine.specs.Choices.{act_by, takes_of, enabled_from, enabled_of}
+use Rattle.og_machine.specs.Machine.{Setup, ActorState, can_act}
+use Rattle.og_machine.specs.Choices.{act_by, takes_of, enabled_from}
 
 -- ---- lists
 

@@ -1,5 +1,5 @@
 -- The machine that is kept at the start.
-use Rattle.std.proofs.Common.{◌≡◌, ◌∙◌, ℕ, zero, suc, ◌+◌, ◌*◌, ◌<◌, ◌≤◌, arith, refl, sym, ap, subst, Option, None, Some, List, [], ◌∷◌, ◌++◌, length, map}
+use Rattle.std.proofs.Common.{◌≡◌, ◌∙◌, ℕ, zero, suc, ◌+◌, ◌*◌, ◌≤◌, arith, refl, sym, ap, subst, Some, List, [], ◌∷◌, ◌++◌, length, map}
 use Rattle.std.proofs.lemmas.List.{map-append}
 use Rattle.std.specs.Prelude.{slice_get}
 use Rattle.og_base.specs.declared.Settings.{Settings}
@@ -16,9 +16,8 @@ use Rattle.og_node.specs.Node.{NodeState, new_node}
 use Rattle.og_mover.specs.Table.{MoverState, first_mover}
 use Rattle.og_machine.specs.Machine.{Setup, setup_of, ActorState, Node, Machine, start_machine, start_node, start_mover, new_seat}
 use Rattle.og_refine.specs.Machines.{IsRunnable}
-use Rattle.og_refine.specs.Laws.{RunsTo}
 use Rattle.og_engine.specs.Marks.{AreMarked}
-use Rattle.og_engine.specs.Kept.{KeptMachine, IsMade, machine_of, setup_in, node_seat, mover_seat, room_of}
+use Rattle.og_engine.specs.Kept.{KeptMachine, IsMade, machine_of, setup_in, node_seat, room_of}
 
 -- what is kept at the start of a program
 pub record IsFirst (image : ImageState) (settings : Settings) (kept : KeptMachine) : Type 0 where

@@ -1,5 +1,5 @@
 -- The take of a message by a node, and by the mover.
-use Rattle.std.proofs.Common.{◌≡◌, ◌∙◌, ℕ, ◌+◌, ◌*◌, ◌<◌, ◌≤◌, ◌^◌, Bool, true, false, arith, refl, sym, ap, subst, Option, None, Some, List, [], ◌∷◌, ◌++◌, length, map, get_or}
+use Rattle.std.proofs.Common.{◌≡◌, ◌∙◌, ℕ, ◌+◌, ◌<◌, ◌≤◌, ◌^◌, true, arith, refl, sym, ap, subst, Option, None, Some, length, get_or}
 use Rattle.std.specs.Prelude.{slice_get, slice_set, IsTrue}
 use Rattle.og_base.specs.declared.NotEnabled.TheVariants.{NoActor, NoMessage}
 use Rattle.og_runs.specs.declared.Choice.TheVariants.{Take}
@@ -17,10 +17,9 @@ use Rattle.og_image.specs.Image.{ImageState}
 use Rattle.og_processor.specs.Sound.{IsSound, IsLowProcessor, IsLowKind}
 use Rattle.og_node.specs.Kept.{KeptNode, node_of}
 use Rattle.og_node.specs.Node.{HasRow, take_of as node_take}
-use Rattle.og_node.specs.Rows.{has_row as has_node_row}
 use Rattle.og_node.proofs.Rows.{row_told}
 use Rattle.og_mover.specs.Table.{MoverState, has_table_row, take_of as mover_take}
-use Rattle.og_machine.specs.Machine.{Setup, ActorState, Node, Machine, rules, has_row, by_node, by_mover, refusal_of}
+use Rattle.og_machine.specs.Machine.{ActorState, rules, has_row, by_node, by_mover, refusal_of}
 use Rattle.og_engine.specs.Marks.{AreMarked}
 use Rattle.og_engine.specs.Kept.{KeptMachine, IsMade, Moves, HaveRoom, machine_of, setup_in, node_seat, mover_seat, seats_of}
 use Rattle.og_refine.proofs.Lawful.{messages_rows}

@@ -1,5 +1,5 @@
 -- A mark for each node in one word: what the marks say of the nodes that are kept.
-use Rattle.std.specs.Prelude.{◌≡◌, ℕ, zero, suc, ◌+◌, Bool, true, false, nat_eq, Option, None, Some, Result, Ok, Err, is_none, List, slice_get, if◌then◌else◌}
+use Rattle.std.specs.Prelude.{◌≡◌, ℕ, zero, suc, ◌+◌, Bool, true, false, nat_eq, Option, None, Some, Result, Err, is_none, List, slice_get, if◌then◌else◌}
 use Rattle.std.specs.Result.{is_ok}
 use Rattle.og_base.specs.declared.NotEnabled.{NotEnabled}
 use Rattle.og_base.specs.declared.NotEnabled.TheVariants.{Stopped}

@@ -1,4 +1,4 @@
-use Rattle.std.proofs.Common.{◌≡◌, ◌∙◌, ℕ, Bool, cond, nat_eq, Some, ap, sym}
+use Rattle.std.proofs.Common.{◌≡◌, ◌∙◌, Bool, cond, nat_eq, Some, ap, sym}
 use Rattle.std.specs.Prelude.{slice_get}
 use Rattle.og_runs.specs.declared.Seat.{Seat}
 use Rattle.og_processor.specs.Act.{may_act}

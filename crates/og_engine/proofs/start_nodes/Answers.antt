@@ -1,9 +1,8 @@
-use Rattle.std.proofs.Common.{◌≡◌, ◌∙◌, ◌+◌, ℕ, List, ◌++◌, ◌∷◌, [], length, map, length-append, arith, refl, ap, sym, subst}
+use Rattle.std.proofs.Common.{◌≡◌, ◌∙◌, ◌+◌, List, ◌++◌, ◌∷◌, [], length, map, length-append, arith, ap}
 use Rattle.og_base.specs.Numbers.{below}
 use Rattle.og_runs.specs.declared.Seat.{Seat}
-use Rattle.og_node.specs.Kept.{KeptNode, node_of}
-use Rattle.og_node.specs.Node.{NodeState}
-use Rattle.og_machine.specs.Machine.{Setup, ActorState, Node, new_seat, start_node}
+use Rattle.og_node.specs.Kept.{KeptNode}
+use Rattle.og_machine.specs.Machine.{Setup, new_seat, start_node}
 use Rattle.og_engine.specs.Kept.{node_seat}
 use Rattle.og_engine.proofs.Starts.{one_node_more, new_node_seat}
 use Rattle.og_engine.proofs.start_nodes.Goals as goal

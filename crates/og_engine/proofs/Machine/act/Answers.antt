@@ -1,4 +1,4 @@
-use Rattle.std.proofs.Common.{◌≡◌, ◌<◌, arith, length, vec_len, ap, sym, subst}
+use Rattle.std.proofs.Common.{◌≡◌, ◌<◌, arith, length, vec_len, ap}
 use Rattle.og_engine.specs.Kept.{KeptMachine}
 use Rattle.og_engine.proofs.Acts.{nobody_as}
 use Rattle.og_engine.proofs.Machine.act.Goals as goal

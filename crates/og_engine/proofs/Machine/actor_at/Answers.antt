@@ -1,4 +1,4 @@
-use Rattle.std.proofs.Common.{◌≡◌, ◌+◌, ◌≤◌, ap, arith}
+use Rattle.std.proofs.Common.{◌≡◌, ap, arith}
 use Rattle.og_engine.specs.Kept.{KeptMachine}
 use Rattle.og_engine.specs.Order.{choices_below}
 use Rattle.og_engine.proofs.Counts.{none_before}

@@ -1,4 +1,4 @@
-use Rattle.std.proofs.Common.{◌≡◌, ◌≤◌, ◌<◌, arith, length}
+use Rattle.std.proofs.Common.{◌≤◌, arith, length}
 use Rattle.og_flight.specs.Flight.{messages_below}
 use Rattle.og_engine.proofs.Ranks.{below_few}
 use Rattle.og_engine.proofs.Machine.choices_below.Goals as goal

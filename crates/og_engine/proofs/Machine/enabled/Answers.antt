@@ -1,4 +1,4 @@
-use Rattle.std.proofs.Common.{◌≡◌, ◌∙◌, ◌+◌, ◌-◌, ◌<◌, ◌≤◌, ℕ, Some, List, length, arith, ap, subst}
+use Rattle.std.proofs.Common.{◌≡◌, ◌∙◌, ◌+◌, ◌-◌, ◌<◌, ◌≤◌, Some, length, arith, ap, subst}
 use Rattle.std.specs.Prelude.{slice_get}
 use Rattle.og_flight.specs.Flight.{messages_to}
 use Rattle.og_engine.specs.Kept.{KeptMachine}

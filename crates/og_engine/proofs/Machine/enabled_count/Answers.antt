@@ -1,4 +1,4 @@
-use Rattle.std.proofs.Common.{◌≡◌, ◌∙◌, ap, length}
+use Rattle.std.proofs.Common.{◌∙◌, ap, length}
 use Rattle.og_mover.specs.Table.{has_act}
 use Rattle.og_engine.specs.Kept.{KeptMachine}
 use Rattle.og_engine.specs.Marks.{marks_below}

@@ -1,4 +1,4 @@
-use Rattle.std.proofs.Common.{◌≡◌, ◌∙◌, ap, length}
+use Rattle.std.proofs.Common.{◌∙◌, ap, length}
 use Rattle.og_engine.specs.Kept.{KeptMachine, machine_of}
 use Rattle.og_engine.proofs.Machine.in_flight.Goals as goal
 

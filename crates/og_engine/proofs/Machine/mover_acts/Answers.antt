@@ -1,4 +1,4 @@
-use Rattle.std.proofs.Common.{◌≡◌, ◌∙◌, Bool, true, false, not, sym, ap}
+use Rattle.std.proofs.Common.{◌≡◌, ◌∙◌, true, sym}
 use Rattle.og_mover.specs.Table.{has_act}
 use Rattle.og_engine.specs.Kept.{KeptMachine}
 use Rattle.og_engine.proofs.Acts.{mover_may_as, mover_acted_as, mover_refused_as}

@@ -1,6 +1,5 @@
-use Rattle.std.proofs.Common.{◌≡◌, ◌∙◌, Some, Ok, Err, arith, refl, sym, ap, subst}
+use Rattle.std.proofs.Common.{◌∙◌, sym}
 use Rattle.og_engine.specs.Kept.{KeptMachine}
-use Rattle.og_engine.proofs.Moved.{Stepped}
 use Rattle.og_engine.proofs.Acts.{node_may, node_acted_as, node_refused_as, marked_back, handed_on}
 use Rattle.og_engine.proofs.Counts.{few_seats}
 use Rattle.og_engine.proofs.Machine.node_acts.Goals as goal

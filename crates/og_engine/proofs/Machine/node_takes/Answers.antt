@@ -1,4 +1,4 @@
-use Rattle.std.proofs.Common.{◌≡◌, ◌∙◌, ◌≤◌, ◌<◌, length, arith, sym, subst}
+use Rattle.std.proofs.Common.{◌≤◌, ◌<◌, length, arith, sym, subst}
 use Rattle.og_flight.specs.Flight.{Flying}
 use Rattle.og_msg.specs.declared.Kind.{Kind}
 use Rattle.og_node.specs.Kept.{node_of}

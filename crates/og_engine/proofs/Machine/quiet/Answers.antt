@@ -1,5 +1,5 @@
-use Rattle.std.proofs.Common.{◌≡◌, ◌∙◌, ap, sym, length}
-use Rattle.og_engine.specs.Kept.{KeptMachine, machine_of}
+use Rattle.std.proofs.Common.{◌∙◌, ap, sym, length}
+use Rattle.og_engine.specs.Kept.{KeptMachine}
 use Rattle.og_engine.proofs.Counts.{quiet_when_rests, not_quiet_in_flight, not_quiet_running}
 use Rattle.og_engine.proofs.Machine.quiet.Goals as goal
 

@@ -1,4 +1,4 @@
-use Rattle.std.proofs.Common.{◌≡◌, ◌∙◌, Bool, List, ap, sym, refl}
+use Rattle.std.proofs.Common.{◌∙◌, Bool, List, ap, sym, refl}
 use Rattle.std.specs.Prelude.{◌&&◌}
 use Rattle.std.specs.List.{list_all}
 use Rattle.og_runs.specs.declared.Seat.{Seat}

@@ -1,13 +1,9 @@
-use Rattle.std.proofs.Common.{◌≡◌, ◌∙◌, ◌≤◌, ◌*◌, ℕ, List, length, map, [], arith, refl, ap, sym, subst}
-use Rattle.og_base.specs.Numbers.{below}
+use Rattle.std.proofs.Common.{◌≤◌, ◌*◌, ℕ, List, length, sym, subst}
 use Rattle.og_runs.specs.declared.Seat.{Seat}
-use Rattle.og_image.specs.Layout.{LayoutState, layout_of, pages_of}
+use Rattle.og_image.specs.Layout.{LayoutState, pages_of}
 use Rattle.og_pager.specs.PageTable.{Suits}
-use Rattle.og_mover.specs.Table.{MoverState, first_mover}
-use Rattle.og_machine.specs.Machine.{ActorState, setup_of, new_seat, start_node}
 use Rattle.og_node.specs.Kept.{KeptNode}
 use Rattle.og_engine.specs.Marks.{AreMarked}
-use Rattle.og_engine.specs.Kept.{KeptMachine, node_seat}
 use Rattle.og_engine.proofs.Starts.{AreSettings, is_start, first_is, first_is_made}
 use Rattle.og_engine.proofs.Machine.start.Goals as goal
 

@@ -1,4 +1,4 @@
-use Rattle.std.proofs.Common.{◌≡◌, ◌∙◌, ap}
+use Rattle.std.proofs.Common.{◌∙◌, ap}
 use Rattle.og_engine.specs.Kept.{KeptMachine}
 use Rattle.og_engine.specs.Marks.{marks_below}
 use Rattle.og_engine.proofs.Counts.{stopped_is}

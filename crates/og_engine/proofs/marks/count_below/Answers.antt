@@ -1,5 +1,5 @@
-use Rattle.std.proofs.Common.{◌≡◌, ◌∙◌, ◌<◌, ◌≤◌, ◌^◌, ◌%◌, ◌-◌, ◌*◌, ℕ, sym, ap, arith}
-use Rattle.std.specs.Prelude.{bit_and, count_ones}
+use Rattle.std.proofs.Common.{◌≡◌, ◌∙◌, ◌<◌, ◌≤◌, ◌^◌, sym, ap, arith}
+use Rattle.std.specs.Prelude.{count_ones}
 use Rattle.og_engine.proofs.Bits.{marks_below_is, marks_below_all, low_bits}
 use Rattle.og_engine.proofs.marks.count_below.Goals as goal
 

@@ -1,6 +1,6 @@
 use Rattle.std.proofs.Common.{◌≡◌, ◌∙◌, ◌<◌, ◌≤◌, ◌^◌, sym, ap, arith, nat_eq, nat_lt, false}
 use Rattle.std.proofs.lemmas.Bool.Decides.{nat_tests}
-use Rattle.std.proofs.lemmas.Nat.Bits.{shr_and_one, bit_at_above}
+use Rattle.std.proofs.lemmas.Nat.Bits.{bit_at_above}
 use Rattle.og_engine.proofs.marks.has_mark.Goals as goal
 
 pub returns-else-node-lt128 : goal.returns-else-node-lt128

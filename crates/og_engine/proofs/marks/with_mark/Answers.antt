@@ -1,4 +1,4 @@
-use Rattle.std.proofs.Common.{◌≡◌, ◌∙◌, ◌<◌, ◌^◌, ℕ, Bool, cond, nat_eq, sym, ap, arith}
+use Rattle.std.proofs.Common.{◌∙◌, ◌<◌, ◌^◌, Bool, cond, nat_eq, sym, ap, arith}
 use Rattle.og_engine.specs.Marks.{is_marked}
 use Rattle.og_engine.proofs.Bits.{set_marked, clear_marked}
 use Rattle.og_engine.proofs.marks.with_mark.Goals as goal

@@ -1,10 +1,8 @@
-use Rattle.std.proofs.Common.{◌≡◌, ◌∙◌, ◌+◌, ap, length, Some, None}
-use Rattle.og_node.specs.Kept.{node_of}
-use Rattle.og_node.specs.Node.{NodeState, act_of as node_act, take_of as node_take}
-use Rattle.og_mover.specs.Table.{MoverState, act_of as mover_act, take_of as mover_take}
-use Rattle.og_machine.specs.Machine.{Node, Mover, by_node, by_mover}
-use Rattle.og_engine.specs.Kept.{node_seat, mover_seat}
-use Rattle.og_engine.proofs.Moved.{moved, only_these}
+use Rattle.std.proofs.Common.{◌∙◌, ◌+◌, ap, length, Some}
+use Rattle.og_mover.specs.Table.{MoverState, take_of as mover_take}
+use Rattle.og_machine.specs.Machine.{Mover, by_mover}
+use Rattle.og_engine.specs.Kept.{mover_seat}
+use Rattle.og_engine.proofs.Moved.{moved}
 use Rattle.og_engine.proofs.step.take_of_mover.Goals as goal
 
 pub returns : goal.returns
