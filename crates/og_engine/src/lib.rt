@@ -1,8 +1,9 @@
 //! The machine of all actors, in code: it starts, makes one event after another, and answers what may happen next.
 //!
 //! Below stand the machine as it is defined (`og_machine`), its actors in code (`og_node`, `og_mover`), the index of messages in
-//! flight (`og_flight`), and what holds of every machine that a run leads to (`og_refine`): each message has its row, so a take never
-//! fails, and there are never more messages than room. Above stand the commands.
+//! flight (`og_flight`), and what holds of every machine that a run leads to (`og_refine`, `og_stores`): each message has its row, so a
+//! take never fails, there are never more messages than room, and no line has seen more stores than there were events. Above stand the
+//! commands.
 //!
 //! `specs/Kept` says how a machine is kept, which machine of `og_machine` that is, and what is known of one that choices from the start
 //! lead to: the table kept here is that machine's step, and its enabled choices. All memory is taken by [`Machine::start`]. An
