@@ -1,5 +1,8 @@
 //! Files of images and of choices, in memory.
 
+ghost use Rattle.std.specs.Prelude.{◌≤◌};
+ghost use Rattle.std.specs.Option.{ForSome};
+
 use crate::{ChoiceFault, ImageFault, Unused, load_choices, load_program};
 use og_base::Settings;
 use og_elf::ElfCause;
@@ -18,7 +21,9 @@ fn shelf_of(alloc: Global, bytes: &[u8]) -> Result<MemoryShelf, AllocError> {
     Ok(shelf)
 }
 
-fn settings_of(nodes: u8) -> Settings {
+fn settings_of(nodes: u8) -> Settings
+    requires { (1 ≤ nodes) × (nodes ≤ 128) }
+{
     Settings {
         nodes,
         frames: 64,
@@ -33,7 +38,9 @@ fn settings_of(nodes: u8) -> Settings {
     }
 }
 
-fn given_of(nodes: Option<u32>) -> Given {
+fn given_of(nodes: Option<u32>) -> Given
+    requires { ForSome nodes (λ n. (1 ≤ n) × (n ≤ 128)) }
+{
     Given {
         nodes,
         frames: None,
