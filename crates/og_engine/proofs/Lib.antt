@@ -6,3 +6,4 @@ pub mod Acts
 pub mod Takes
 pub mod Ranks
 pub mod Counts
+pub mod Drains

@@ -6,7 +6,7 @@
 //! commands.
 //!
 //! `specs/Kept` says how a machine is kept, which machine of `og_machine` that is, and what is known of one that choices from the start
-//! lead to: the table kept here is that machine's step, and its enabled choices. All memory is taken by [`Machine::start`]. An
+//! lead to: the table kept here is that machine's step, its enabled choices and its drain. All memory is taken by [`Machine::start`]. An
 //! event takes none, and changes one actor in its place: which nodes may act and which harts run is kept in two words, a bit for each
 //! node.
 #![tactic(auto)]
@@ -19,6 +19,7 @@ ghost use Rattle.og_engine.specs.Kept.{machine_of, node_seat, IsMade};
 ghost use Rattle.og_engine.specs.Marks.{AreMarked, is_running_by};
 
 pub mod choices;
+pub mod drain;
 mod marks;
 pub mod step;
 
