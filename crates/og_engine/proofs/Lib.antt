@@ -7,3 +7,4 @@ pub mod Takes
 pub mod Ranks
 pub mod Counts
 pub mod Drains
+pub mod Lines

@@ -1,4 +1,5 @@
 //! The machine of all actors, in code: it starts, makes one event after another, and answers what may happen next.
+//! It shows the line that it holds for a block of a page, and the byte that it holds at an address.
 //!
 //! Below stand the machine as it is defined (`og_machine`), its actors in code (`og_node`, `og_mover`), the index of messages in
 //! flight (`og_flight`), and what holds of every machine that a run leads to (`og_refine`, `og_stores`): each message has its row, so a
@@ -20,6 +21,7 @@ ghost use Rattle.og_engine.specs.Marks.{AreMarked, is_running_by};
 
 pub mod choices;
 pub mod drain;
+pub mod held;
 mod marks;
 pub mod step;
 
