@@ -1,3 +1,4 @@
 pub mod Played
 pub mod Simulated
 pub mod Replayed
+pub mod Stormed

@@ -1,6 +1,6 @@
 //! Runs from files in memory to their texts.
 
-use crate::{RunFault, replay_file, simulate_file};
+use crate::{RunFault, print_storm, replay_file, simulate_file};
 use og_base::{NotEnabled, Settings};
 use og_io::memory::{MemoryShelf, MemorySink};
 use og_load::ChoiceFault;
@@ -160,5 +160,21 @@ fn a_head_gives_the_settings(rt: HostRuntime) -> Result<(), Fail> {
         out.held(),
         b"origin 2 2 64 64 2 8 1000000 64 32 4 1024\nlimit 0 0\n".as_slice()
     );
+    Ok(())
+}
+
+#[test]
+fn a_storm_is_told_in_one_line(rt: HostRuntime) -> Result<(), Fail> {
+    let alloc = rt.alloc();
+    let table: [(u32, bool, &[u8]); 2] = [
+        (1_000_000, true, b"storm 1 1 sum 1 moves 0 events 27\n"),
+        (5, false, b"storm 1 1 limit 5\n"),
+    ];
+    for (most, quiet, line) in table {
+        let mut out = MemorySink::make(alloc, 100, Vec::new(alloc));
+        let made = print_storm(alloc, 7, &SETTINGS, 1, most, &mut out);
+        assert_eq!(rt; made, Ok(quiet));
+        assert_eq!(rt; out.held(), line);
+    }
     Ok(())
 }
