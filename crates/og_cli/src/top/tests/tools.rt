@@ -143,10 +143,10 @@ fn files_may_be_too_long(rt: HostRuntime) -> Result<(), Fail> {
 fn a_file_or_a_sink_may_fail(rt: HostRuntime) -> Result<(), Fail> {
     let alloc = rt.alloc();
     let table: &[(&str, &[u8], &[u8])] = &[
-        ("assemble store.raw", SOURCE, STORE),
-        ("disassemble store.raw", STORE, PRINTED),
+        ("assemble store.raw", SOURCE, b"\x1c\x00\x00"),
+        ("disassemble store.raw", STORE, b"lui"),
     ];
-    for (line, bytes, text) in table {
+    for (line, bytes, first) in table {
         let words = words_of(alloc, line)?;
         let shelf = shelf_with(alloc, bytes, vec![in alloc; 1]?)?;
         let unread = answer_with(alloc, &words, shelf, whole_sink(alloc), whole_sink(alloc));
@@ -166,7 +166,7 @@ fn a_file_or_a_sink_may_fail(rt: HostRuntime) -> Result<(), Fail> {
             whole_sink(alloc),
         );
         assert_eq!(rt; cut.status, 14, "{line}");
-        assert_eq!(rt; cut.out.held(), &text[..3], "{line}");
+        assert_eq!(rt; cut.out.held(), *first, "{line}");
         assert_eq!(rt;
             cut.err.held(),
             b"origin: cannot write\n".as_slice(),
