@@ -28,7 +28,7 @@ no_name name old new same adds =
     absurd (omega arith)
 
 -- where the files are told, what is known of a file of this name is known of these bytes
-told : (P : List ℕ → Type 0) (files : Option Files) (name bytes : List ℕ) → IsSomeAnd files (λ fs. IsSomeAnd (file_of fs name) P) → HasFile files name bytes → P bytes
+pub told : (P : List ℕ → Type 0) (files : Option Files) (name bytes : List ℕ) → IsSomeAnd files (λ fs. IsSomeAnd (file_of fs name) P) → HasFile files name bytes → P bytes
 told P None name bytes fine file = elim fine [ ]
 told P (Some fs) name bytes fine file = at (file_of fs name) file fine
   where
@@ -37,7 +37,7 @@ told P (Some fs) name bytes fine file = at (file_of fs name) file fine
     at (Some b) is fine = let same : b ≡ bytes = cc in subst P same fine
 
 -- a file of few bytes isn't too long
-no_long : {A : Type 0} → (P : List ℕ → Type 0) (limit : ℕ) (files : Option Files) (name : List ℕ) → ((b : List ℕ) → P b → length b ≤ limit) → IsSomeAnd files (λ fs. IsSomeAnd (file_of fs name) P) → HasLongFile files name limit → A
+pub no_long : {A : Type 0} → (P : List ℕ → Type 0) (limit : ℕ) (files : Option Files) (name : List ℕ) → ((b : List ℕ) → P b → length b ≤ limit) → IsSomeAnd files (λ fs. IsSomeAnd (file_of fs name) P) → HasLongFile files name limit → A
 no_long P limit None name short fine long = elim fine [ ]
 no_long P limit (Some fs) name short fine long = at (file_of fs name) fine long
   where

@@ -1,55 +1,142 @@
--- A command that nothing hinders does what was asked for, or ends for want of memory.
-use Rattle.std.proofs.Common.{nat_lt, ◌≡◌, ℕ, ◌+◌, ◌^◌, ◌-◌, ◌<◌, true, false, List, [], ◌∷◌, ◌++◌, length, ◌⊎◌, Option, Some, None, inl, inr, arith, refl, ap, length-append}
-use Rattle.std.specs.Prelude.{IsSomeAnd}
+-- What nothing hinders is done, or memory wants.
+use Rattle.std.proofs.Common.{◌≡◌, ℕ, ◌≤◌, nat_lt, arith, Bool, true, false, List, length, Option, None, Some, Result, Ok, Err, ◌⊎◌, inl, inr, refl, ap, subst, sym, tt}
 use Rattle.std.proofs.lemmas.Bool.Decides.{nat_tests}
+use Rattle.og_base.specs.declared.NotEnabled.{NotEnabled}
+use Rattle.og_base.specs.declared.Settings.{Settings}
+use Rattle.og_io.specs.Outside.{ShelfState, SinkState, HasFile, HasLongFile, IsAsBefore}
+use Rattle.og_words.specs.declared.job.Given.{Given}
+use Rattle.og_words.specs.Words.{JobState, simulate, run, replay, storm, assemble, disassemble}
+use Rattle.og_load.specs.declared.image.ImageFault.{ImageFault}
+use Rattle.og_load.specs.declared.image.ImageFault.TheVariants as images
+use Rattle.og_load.specs.declared.choices.ChoiceFault.TheVariants as choice
+use Rattle.og_load.specs.Images.{IsImageFile, program_fault}
+use Rattle.og_load.specs.Choices.{feeds_of}
+use Rattle.og_print.specs.declared.fault.RunFault.{RunFault}
+use Rattle.og_print.specs.declared.fault.RunFault.TheVariants as fault
+use Rattle.og_headline.specs.Headline.{IsRefused}
+use Rattle.og_print.specs.Runs.{image_fault, frames_fault, file_setup}
+use Rattle.og_print.specs.Files.{HasProgram, AreRead, SimulationEnds, ReplayEnds, unplaced}
+use Rattle.og_print.specs.Storm.{StormEnds}
+use Rattle.og_image.specs.Storm.{storm_of}
 use Rattle.og_cli.specs.declared.exit.Exit.{Exit}
 use Rattle.og_cli.specs.declared.exit.Exit.TheVariants as exit
-use Rattle.og_cli.specs.declared.exit.ImageFault.{ImageFault}
-use Rattle.og_cli.specs.declared.exit.ImageFault.TheVariants as fault
-use Rattle.og_io.specs.Outside.{ShelfState, SinkState, Files, file_of, HasFile, HasLongFile, AddsName, Rises, IsAsBefore}
-use Rattle.og_cli.specs.Run.{image_fault}
-use Rattle.og_cli.specs.Command.{Asked, runs, assembles, disassembles, CommandEnds, JobEnds, EndsUnhindered, IsUnhindered, IsDone, HasImage, Task}
-use Rattle.og_cli.proofs.Files.{no_rise, no_name, source_done, image_done}
+use Rattle.og_cli.specs.Accepted.{Tells, IsAcceptedImage, IsAcceptedProgram, AreAcceptedChoices, AreAccepted, IsAcceptedStorm}
+use Rattle.og_cli.specs.Runs.{run_exit}
+use Rattle.og_cli.specs.Command.{CommandEnds, HasRun, IsDone, IsUnhindered, EndsUnhindered}
+use Rattle.og_cli.proofs.Files.{no_rise, no_name, told, no_long, source_done, image_done}
 
--- the file of an image that is run has no fault
-no_fault : {A : Type 0} → (job : Task) (files : Option Files) (bytes : List ℕ) (f : ImageFault) → HasImage job files → HasFile files job.name bytes → image_fault job.raw bytes job.settings ≡ Some f → A
-no_fault job None bytes f image file wrong = elim image [ ]
-no_fault job (Some fs) bytes f image file wrong = at (file_of fs job.name) file image
-  where
-    at : {A : Type 0} → (o : Option (List ℕ)) → o ≡ Some bytes → IsSomeAnd o (λ b. image_fault job.raw b job.settings ≡ None) → A
-    at (Some b) is fine = let same : b ≡ bytes = cc in let none : image_fault job.raw bytes job.settings ≡ None = rw same at fine in absurd (cc)
-    at None is fine = absurd (cc)
+-- a run ended, or memory wants
+abbrev HasEnded : Exit → Type 0
+HasEnded answer = HasRun answer ⊎ (answer ≡ exit.Memory)
 
--- a file that is too long is none of an image that is run
-no_long_file : {A : Type 0} → (job : Task) (files : Option Files) → HasImage job files → HasLongFile files job.name 67108864 → A
-no_long_file job None image long = elim image [ ]
-no_long_file job (Some fs) image long = at (file_of fs job.name) image long
-  where
-    at : {A : Type 0} → (o : Option (List ℕ)) → IsSomeAnd o (λ b. image_fault job.raw b job.settings ≡ None) → IsSomeAnd o (λ b. 67108864 < length b) → A
-    at None fine more = elim fine [ ]
-    at (Some b) fine more =
-        let over : nat_lt 67108864 (length b) ≡ true = grind (arith, nat_tests) in
-        let wrong : image_fault job.raw b job.settings ≡ Some fault.TooLong = rw over refl in
-        absurd (cc)
+-- ------------------------------------------------------------ a simulation
 
--- a run that nothing hinders ends with its text
-run_done : (task : Task) (shelf after : ShelfState) (old new : SinkState) (answer : Exit) → JobEnds task shelf after old new answer → IsUnhindered (runs task) shelf after old new → IsDone (runs task) answer ⊎ (answer ≡ exit.Memory)
-run_done task shelf after old new exit.Quiet ends u = inl (inl refl)
-run_done task shelf after old new exit.Limit ends u = inl (inr refl)
-run_done task shelf after old new exit.Memory ends u = inr refl
-run_done task shelf after old new exit.Words (same, (built, (bytes, file, none))) u = elim none [ ]
-run_done task shelf after old new (exit.Source f) (same, (built, (bytes, file, none))) u = elim none [ ]
-run_done task shelf after old new exit.Done (same, (built, (bytes, file, none))) u = elim none [ ]
-run_done task shelf after old new exit.NotBuilt ends u = let yes : task.is_built ≡ true = u.accepted.0 in let no : task.is_built ≡ false = ends.1.0 in absurd (cc)
-run_done task shelf after old new exit.ShelfFault ends u = no_name task.name shelf.failed after.failed u.read (ap (λ (s : ShelfState). s.failed) ends.0)
-run_done task shelf after old new (exit.Image fault.TooLong) ends u = no_long_file task shelf.files u.accepted.1 ends.1.1
-run_done task shelf after old new (exit.Image (fault.Elf cause at)) (same, (built, (bytes, file, (wrong, kept)))) u = no_fault task shelf.files bytes (fault.Elf cause at) u.accepted.1 file wrong
-run_done task shelf after old new (exit.Image fault.Raw) (same, (built, (bytes, file, (wrong, kept)))) u = no_fault task shelf.files bytes fault.Raw u.accepted.1 file wrong
-run_done task shelf after old new (exit.Image (fault.NoFrames need have)) (same, (built, (bytes, file, (wrong, kept)))) u = no_fault task shelf.files bytes (fault.NoFrames need have) u.accepted.1 file wrong
-run_done task shelf after old new exit.SinkFault (same, (built, (bytes, file, (text, quiet, run, cut)))) u = no_rise old.faults new.faults u.written cut.1
+-- an image that is accepted has no fault
+no_fault : {A : Type 0} → (raw : Bool) (name : List ℕ) (settings : Settings) (shelf : ShelfState) (bytes : List ℕ) (f : ImageFault) → Tells shelf.files name (IsAcceptedImage raw settings) → IsImageFile name shelf bytes → image_fault raw bytes settings ≡ Some f → A
+no_fault raw name settings shelf bytes f fine file wrong =
+    let good : IsAcceptedImage raw settings bytes = told (IsAcceptedImage raw settings) shelf.files name bytes fine file.0 in
+    let none : image_fault raw bytes settings ≡ None = good.1 in
+    absurd (cc (none, wrong))
 
-pub ends_unhindered : (asked : Option Asked) (shelf after : ShelfState) (old new : SinkState) (answer : Exit) → CommandEnds asked shelf after old new answer → EndsUnhindered asked shelf after old new answer
+simulated : (raw : Bool) (name : List ℕ) (settings : Settings) (number most : ℕ) (shelf after : ShelfState) (old new : SinkState) (ended : Result Bool RunFault) → SimulationEnds raw name settings number most shelf after old new ended
+    → Tells shelf.files name (IsAcceptedImage raw settings) → after.failed ≡ shelf.failed → IsAsBefore old.faults new.faults → HasEnded (run_exit ended)
+simulated raw name settings number most shelf after old new (Ok true) ends fine read written = inl (inl refl)
+simulated raw name settings number most shelf after old new (Ok false) ends fine read written = inl (inr refl)
+simulated raw name settings number most shelf after old new (Err fault.Unread) ends fine read written = no_name name shelf.failed after.failed read (ap (λ (s : ShelfState). s.failed) ends.0)
+simulated raw name settings number most shelf after old new (Err fault.ChoicesUnread) ends fine read written = absurd ends
+simulated raw name settings number most shelf after old new (Err (fault.Image images.TooLong)) ends fine read written = no_long (IsAcceptedImage raw settings) 67108864 shelf.files name (λ b good. good.0) fine ends.2
+simulated raw name settings number most shelf after old new (Err (fault.Image images.Raw)) (same, kept, (bytes, file, wrong)) fine read written = no_fault raw name settings shelf bytes images.Raw fine file wrong
+simulated raw name settings number most shelf after old new (Err (fault.Image (images.Elf cause at))) (same, kept, (bytes, file, wrong)) fine read written = no_fault raw name settings shelf bytes (images.Elf cause at) fine file wrong
+simulated raw name settings number most shelf after old new (Err (fault.Image (images.NoFrames need have))) (same, kept, (bytes, file, wrong)) fine read written = no_fault raw name settings shelf bytes (images.NoFrames need have) fine file wrong
+simulated raw name settings number most shelf after old new (Err (fault.Choices f)) ends fine read written = absurd ends
+simulated raw name settings number most shelf after old new (Err fault.Memory) ends fine read written = inr refl
+simulated raw name settings number most shelf after old new (Err fault.Unwritten) (same, (bytes, file, sound, (text, quiet, run, cut))) fine read written = no_rise old.faults new.faults written cut.1
+
+-- ------------------------------------------------------------ a replay
+
+module _ (raw : Bool) (image choices : List ℕ) (words : Settings) (given : Given) (shelf : ShelfState) where
+  -- what is accepted of the image file
+  abbrev IsGood : List ℕ → Type 0
+  IsGood bytes = IsAcceptedProgram raw bytes × Tells shelf.files choices (AreAcceptedChoices raw bytes words given)
+
+  -- the text that was read is accepted, for the program that was
+  accepted_text : (bytes text : List ℕ) → Tells shelf.files image IsGood → IsImageFile image shelf bytes → HasFile shelf.files choices text → AreAcceptedChoices raw bytes words given text
+  accepted_text bytes text fine program file =
+      let good : IsGood bytes = told IsGood shelf.files image bytes fine program.0 in
+      told (AreAcceptedChoices raw bytes words given) shelf.files choices text good.1 file
+
+  bad_program : {A : Type 0} → (bytes : List ℕ) (f : ImageFault) → Tells shelf.files image IsGood → IsImageFile image shelf bytes → program_fault raw bytes ≡ Some f → A
+  bad_program bytes f fine program wrong =
+      let good : IsGood bytes = told IsGood shelf.files image bytes fine program.0 in
+      let none : program_fault raw bytes ≡ None = good.0.1 in
+      absurd (cc (none, wrong))
+
+  -- a choices file that is accepted isn't too long
+  no_long_text : {A : Type 0} → (bytes : List ℕ) → Tells shelf.files image IsGood → IsImageFile image shelf bytes → HasLongFile shelf.files choices 536870912 → A
+  no_long_text bytes fine program long =
+      let good : IsGood bytes = told IsGood shelf.files image bytes fine program.0 in
+      no_long (AreAcceptedChoices raw bytes words given) 536870912 shelf.files choices (λ b accepted. accepted.short) good.1 long
+
+  no_many_lines : {A : Type 0} → (bytes text : List ℕ) → Tells shelf.files image IsGood → IsImageFile image shelf bytes → HasFile shelf.files choices text → nat_lt 16777216 (feeds_of text) ≡ true → A
+  no_many_lines bytes text fine program file many =
+      let accepted : AreAcceptedChoices raw bytes words given text = accepted_text bytes text fine program file in
+      let few : feeds_of text ≤ 16777216 = accepted.few in
+      let short : nat_lt 16777216 (feeds_of text) ≡ false = grind (arith, nat_tests) in
+      absurd (cc (many, short))
+
+  -- both files were read
+  no_refusal : {A : Type 0} → (files : AreRead raw image choices words given shelf) (at : ℕ) (why : NotEnabled) → Tells shelf.files image IsGood → IsRefused (file_setup raw files.bytes files.loaded.settings) files.loaded.choices at why → A
+  no_refusal files at why fine refused =
+      let accepted : AreAcceptedChoices raw files.bytes words given files.read.0 = accepted_text files.bytes files.read.0 fine files.program.0 files.read.1 in
+      absurd (accepted.enabled files.loaded at why files.read.3.1 refused)
+
+  no_lack : {A : Type 0} → (files : AreRead raw image choices words given shelf) (f : ImageFault) → Tells shelf.files image IsGood → unplaced raw files.bytes files.loaded.settings ≡ Some f → A
+  no_lack files f fine lacking =
+      let accepted : AreAcceptedChoices raw files.bytes words given files.read.0 = accepted_text files.bytes files.read.0 fine files.program.0 files.read.1 in
+      let placed : unplaced raw files.bytes files.loaded.settings ≡ None = accepted.placed files.loaded files.read.3.1 in
+      absurd (cc (placed, lacking))
+
+  replayed : (after : ShelfState) (old new : SinkState) (ended : Result Bool RunFault) → ReplayEnds raw image choices words given shelf after old new ended
+      → Tells shelf.files image IsGood → after.failed ≡ shelf.failed → IsAsBefore old.faults new.faults → HasEnded (run_exit ended)
+  replayed after old new (Ok true) ends fine read written = inl (inl refl)
+  replayed after old new (Ok false) ends fine read written = inl (inr refl)
+  replayed after old new (Err fault.Unread) ends fine read written = no_name image shelf.failed after.failed read (ap (λ (s : ShelfState). s.failed) ends.0)
+  replayed after old new (Err fault.ChoicesUnread) ends fine read written = no_name choices shelf.failed after.failed read (ap (λ (s : ShelfState). s.failed) ends.1.1)
+  replayed after old new (Err (fault.Image images.TooLong)) ends fine read written = no_long IsGood 67108864 shelf.files image (λ b good. good.0.0) fine ends.2
+  replayed after old new (Err (fault.Image images.Raw)) (same, kept, (bytes, file, wrong)) fine read written = bad_program bytes images.Raw fine file wrong
+  replayed after old new (Err (fault.Image (images.Elf cause at))) (same, kept, (bytes, file, wrong)) fine read written = bad_program bytes (images.Elf cause at) fine file wrong
+  replayed after old new (Err (fault.Image (images.NoFrames need have))) (same, kept, lacks) fine read written = no_lack lacks.files (images.NoFrames need have) fine lacks.lacking
+  replayed after old new (Err (fault.Choices (choice.Refused line why))) (same, kept, refused) fine read written = no_refusal refused.files refused.at why fine refused.refused
+  replayed after old new (Err (fault.Choices choice.TooLong)) (kept, ((bytes, program), (same, inl long))) fine read written = no_long_text bytes fine program.0 long
+  replayed after old new (Err (fault.Choices choice.TooLong)) (kept, ((bytes, program), (same, inr (text, file, short, many)))) fine read written = no_many_lines bytes text fine program.0 file many
+  replayed after old new (Err (fault.Choices (choice.Grammar line))) (kept, ((bytes, program), (same, (text, file, short, (few, outside))))) fine read written = absurd ((accepted_text bytes text fine program.0 file).inside line outside)
+  replayed after old new (Err (fault.Choices choice.Settings)) (kept, ((bytes, program), (same, (text, file, short, (few, other))))) fine read written = absurd ((accepted_text bytes text fine program.0 file).same other)
+  replayed after old new (Err fault.Memory) ends fine read written = inr refl
+  replayed after old new (Err fault.Unwritten) (same, done) fine read written = no_rise old.faults new.faults written done.ended.3.1
+
+-- ------------------------------------------------------------ a storm
+
+stormed : (number loops : ℕ) (settings : Settings) (most : ℕ) (old new : SinkState) (ended : Result Bool RunFault) → StormEnds number loops settings most old new ended → IsAcceptedStorm number loops settings → IsAsBefore old.faults new.faults → HasEnded (run_exit ended)
+stormed number loops settings most old new (Ok true) ends fine written = inl (inl refl)
+stormed number loops settings most old new (Ok false) ends fine written = inl (inr refl)
+stormed number loops settings most old new (Err fault.Unread) ends fine written = absurd ends
+stormed number loops settings most old new (Err fault.ChoicesUnread) ends fine written = absurd ends
+stormed number loops settings most old new (Err (fault.Image f)) ends fine written = let wrong : frames_fault (storm_of number loops settings.nodes) settings ≡ Some f = ends.1 in let none : frames_fault (storm_of number loops settings.nodes) settings ≡ None = fine in absurd (cc (none, wrong))
+stormed number loops settings most old new (Err (fault.Choices f)) ends fine written = absurd ends
+stormed number loops settings most old new (Err fault.Memory) ends fine written = inr refl
+stormed number loops settings most old new (Err fault.Unwritten) ends fine written = no_rise old.faults new.faults written ends.2.1
+
+-- ------------------------------------------------------------ the command
+
+pub ends_unhindered : (asked : Option JobState) (shelf after : ShelfState) (old new : SinkState) (answer : Exit) → CommandEnds asked shelf after old new answer → EndsUnhindered asked shelf after old new answer
 ends_unhindered None shelf after old new answer ends = tt
-ends_unhindered (Some (runs task)) shelf after old new answer ends = λ u. run_done task shelf after old new answer ends u
-ends_unhindered (Some (assembles name)) shelf after old new answer ends = λ u. source_done name shelf after old new answer ends u.accepted u.read u.written
-ends_unhindered (Some (disassembles name)) shelf after old new answer ends = λ u. image_done name shelf after old new answer ends u.accepted u.read u.written
+ends_unhindered (Some job) shelf after old new answer (inl left) = λ u. inr left.0
+ends_unhindered (Some (simulate image raw settings draw events)) shelf after old new answer (inr (s, numbers, (ended, ends, is))) =
+    λ u. subst (λ (x : Exit). HasEnded x) (sym is) (simulated raw image s draw events shelf after old new ended ends (u.accepted s numbers) u.read u.written)
+ends_unhindered (Some (run image raw settings rounds turns)) shelf after old new answer (inr ends) = λ u. absurd u.accepted
+ends_unhindered (Some (replay image choices raw settings given)) shelf after old new answer (inr (s, g, numbers, options, (ended, ends, is))) =
+    λ u. subst (λ (x : Exit). HasEnded x) (sym is) (replayed raw image choices s g shelf after old new ended ends (u.accepted s g numbers options) u.read u.written)
+ends_unhindered (Some (storm number settings loops events)) shelf after old new answer (inr (same, (s, numbers, (ended, ends, is)))) =
+    λ u. subst (λ (x : Exit). HasEnded x) (sym is) (stormed number loops s events old new ended ends (u.accepted s numbers) u.written)
+ends_unhindered (Some (assemble name)) shelf after old new answer (inr ends) = λ u. source_done name shelf after old new answer ends u.accepted u.read u.written
+ends_unhindered (Some (disassemble name)) shelf after old new answer (inr ends) = λ u. image_done name shelf after old new answer ends u.accepted u.read u.written

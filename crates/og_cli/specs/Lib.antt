@@ -1,5 +1,6 @@
+pub mod Accepted
 pub mod Command
 pub mod Exit
-pub mod Run
-pub mod Simulate
+pub mod Names
+pub mod Runs
 pub mod Tools

@@ -10,14 +10,15 @@ use Rattle.og_tools.specs.declared.image.DisassembleFault.TheVariants as disasse
 use Rattle.og_tools.specs.Tools.{IsSource, AssembleEnds, DisassembleEnds}
 use Rattle.og_cli.specs.declared.exit.Exit.{Exit}
 use Rattle.og_cli.specs.declared.exit.Exit.TheVariants as exit
-use Rattle.og_cli.specs.declared.exit.ImageFault.TheVariants as fault
+use Rattle.og_load.specs.declared.image.ImageFault.TheVariants as fault
+use Rattle.og_cli.specs.declared.exit.WordsFile.TheVariants as file
 use Rattle.og_cli.specs.declared.exit.SourceFault.TheVariants as source
 
 -- ------------------------------------------------------------ from a source to an image
 
 abbrev pub assembled_exit : Result ⊤ AssembleFault → Exit
 assembled_exit (Ok done) = exit.Done
-assembled_exit (Err assemble.Unread) = exit.ShelfFault
+assembled_exit (Err assemble.Unread) = exit.ShelfFault file.First
 assembled_exit (Err assemble.TooLong) = exit.Source source.TooLong
 assembled_exit (Err (assemble.Line number cause)) = exit.Source (source.Line number cause)
 assembled_exit (Err assemble.Memory) = exit.Memory
@@ -35,7 +36,7 @@ HasSource name files = IsSomeAnd files (λ fs. IsSomeAnd (file_of fs name) (λ t
 
 abbrev pub printed_exit : Result ⊤ DisassembleFault → Exit
 printed_exit (Ok done) = exit.Done
-printed_exit (Err disassemble.Unread) = exit.ShelfFault
+printed_exit (Err disassemble.Unread) = exit.ShelfFault file.First
 printed_exit (Err disassemble.TooLong) = exit.Image fault.TooLong
 printed_exit (Err disassemble.RawOut) = exit.Image fault.Raw
 printed_exit (Err disassemble.Memory) = exit.Memory

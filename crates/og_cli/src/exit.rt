@@ -2,20 +2,16 @@
 
 ghost use Rattle.std.specs.Prelude.{◌≡◌};
 
-use og_elf::ElfCause;
+use og_load::{ChoiceFault, ImageFault};
 use rv_asm::SourceCause;
 
-/// Why an image isn't run.
+/// Which file of the words.
 #[derive(Clone, Copy, PartialEq, Eq, Debug)]
-pub enum ImageFault {
-    /// An ELF file with this fault, at this offset.
-    Elf { cause: ElfCause, at: u64 },
-    /// A raw file that is no program.
-    Raw,
-    /// More data and stack pages than frames.
-    NoFrames { need: u64, have: u64 },
-    /// A file of more than 67,108,864 bytes.
-    TooLong,
+pub enum WordsFile {
+    /// The one that is named first.
+    First,
+    /// The choices of a replay.
+    Choices,
 }
 
 /// Why a source isn't assembled.
@@ -32,19 +28,19 @@ pub enum SourceFault {
 pub enum Exit {
     /// The words aren't understood.
     Words,
-    /// The words ask for what isn't built yet.
-    NotBuilt,
-    /// The file couldn't be read.
-    ShelfFault,
+    /// This file of the words couldn't be read.
+    ShelfFault(WordsFile),
     /// The image is refused.
     Image(ImageFault),
+    /// The choices are refused.
+    Choices(ChoiceFault),
     /// The source is refused.
     Source(SourceFault),
     /// Want of memory.
     Memory,
     /// The text couldn't be written.
     SinkFault,
-    /// The events were used up before the machine was quiet.
+    /// The events or the choices were used up before the machine was quiet.
     Limit,
     /// What was asked for was written.
     Done,
@@ -61,12 +57,12 @@ impl Exit {
     {
         match self {
             Exit::Done | Exit::Quiet => 0,
-            Exit::ShelfFault => 1,
+            Exit::ShelfFault(_) => 1,
             Exit::Words => 2,
             Exit::Limit => 3,
             Exit::Image(_) => 4,
             Exit::Memory => 5,
-            Exit::NotBuilt => 9,
+            Exit::Choices(_) => 6,
             Exit::Source(_) => 12,
             Exit::SinkFault => 14,
         }

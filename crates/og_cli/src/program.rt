@@ -5,7 +5,8 @@
 //! trusted here.
 
 ghost use Rattle.std.specs.Prelude.{◌≡◌, drop};
-ghost use Rattle.og_cli.specs.Command.{EndsWithStatus, asked_of};
+ghost use Rattle.og_cli.specs.Command.{EndsWithStatus};
+ghost use Rattle.og_words.specs.Words.{job_of};
 ghost use Rattle.og_io.specs.Outside.{texts};
 
 use crate::top::origin_alone;
@@ -37,7 +38,7 @@ pub fn run_words<F: Shelf, K: Sink, E: Sink>(
     out: &mut K,
     err: &mut E,
 ) -> u8
-    ensures { EndsWithStatus (asked_of (drop 1 (texts arguments.now))) (F.seen shelf.old) (F.seen shelf.new) (K.seen out.old) (K.seen out.new) (E.seen err.old) (E.seen err.new) result }
+    ensures { EndsWithStatus (job_of (drop 1 (texts arguments.now))) (F.seen shelf.old) (F.seen shelf.new) (K.seen out.old) (K.seen out.new) (E.seen err.old) (E.seen err.new) result }
 {
     origin_alone(alloc, after_name(arguments), shelf, out, err).status()
 }

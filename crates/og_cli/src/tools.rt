@@ -4,8 +4,9 @@ ghost use Rattle.std.specs.Prelude.{◌≡◌, ◌⊎◌};
 ghost use Rattle.og_io.specs.Outside.{TellsLongFile};
 ghost use Rattle.og_cli.specs.Tools.{assembled_exit, printed_exit, Assembles, Disassembles};
 
-use crate::exit::{Exit, ImageFault, SourceFault};
+use crate::exit::{Exit, SourceFault, WordsFile};
 use og_io::{Shelf, Sink};
+use og_load::ImageFault;
 use og_tools::{AssembleFault, DisassembleFault, assemble_file, disassemble_file};
 use std::alloc::Global;
 
@@ -15,7 +16,7 @@ fn assembled(ended: Result<(), AssembleFault>) -> Exit
 {
     match ended {
         Ok(()) => Exit::Done,
-        Err(AssembleFault::Unread) => Exit::ShelfFault,
+        Err(AssembleFault::Unread) => Exit::ShelfFault(WordsFile::First),
         Err(AssembleFault::TooLong) => Exit::Source(SourceFault::TooLong),
         Err(AssembleFault::Line { number, cause }) => {
             Exit::Source(SourceFault::Line { number, cause })
@@ -33,7 +34,7 @@ pub(crate) fn assemble<F: Shelf, K: Sink>(
     out: &mut K,
 ) -> Exit
     ensures ends { Assembles name.now (F.seen shelf.old) (F.seen shelf.new) (K.seen out.old) (K.seen out.new) result }
-    ensures long { TellsLongFile (F.seen shelf.old).files name.now 16777216 → (result ≡ Exit.ShelfFault) ⊎ (result ≡ Exit.Source SourceFault.TooLong) }
+    ensures long { TellsLongFile (F.seen shelf.old).files name.now 16777216 → (result ≡ Exit.ShelfFault WordsFile.First) ⊎ (result ≡ Exit.Source SourceFault.TooLong) }
 {
     assembled(assemble_file(alloc, name, shelf, out))
 }
@@ -44,7 +45,7 @@ fn printed(ended: Result<(), DisassembleFault>) -> Exit
 {
     match ended {
         Ok(()) => Exit::Done,
-        Err(DisassembleFault::Unread) => Exit::ShelfFault,
+        Err(DisassembleFault::Unread) => Exit::ShelfFault(WordsFile::First),
         Err(DisassembleFault::TooLong) => Exit::Image(ImageFault::TooLong),
         Err(DisassembleFault::RawOut) => Exit::Image(ImageFault::Raw),
         Err(DisassembleFault::Memory) => Exit::Memory,
@@ -60,7 +61,7 @@ pub(crate) fn disassemble<F: Shelf, K: Sink>(
     out: &mut K,
 ) -> Exit
     ensures ends { Disassembles name.now (F.seen shelf.old) (F.seen shelf.new) (K.seen out.old) (K.seen out.new) result }
-    ensures long { TellsLongFile (F.seen shelf.old).files name.now 67108864 → (result ≡ Exit.ShelfFault) ⊎ (result ≡ Exit.Image ImageFault.TooLong) }
+    ensures long { TellsLongFile (F.seen shelf.old).files name.now 67108864 → (result ≡ Exit.ShelfFault WordsFile.First) ⊎ (result ≡ Exit.Image ImageFault.TooLong) }
 {
     printed(disassemble_file(alloc, name, shelf, out))
 }

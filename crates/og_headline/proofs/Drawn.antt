@@ -5,6 +5,7 @@ use Rattle.std.proofs.lemmas.Nat.{mod_below}
 use Rattle.std.specs.Prelude.{IsSome, if◌then◌else◌}
 use Rattle.og_runs.specs.declared.Choice.{Choice}
 use Rattle.og_runs.specs.declared.Event.{Event}
+use Rattle.og_runs.specs.Runs.{choices}
 use Rattle.og_runs.specs.World.{WorldRun, world_step}
 use Rattle.og_runs.proofs.Whole.{world_more}
 use Rattle.og_msg.specs.declared.Note.{Note}
@@ -13,12 +14,12 @@ use Rattle.og_machine.specs.Machine.{Setup, Machine, rules, start_machine, refus
 use Rattle.og_machine.specs.Choices.{enabled_of, drain_of, drawn_choice, next_choice, drawn_from, with_choice, with_event}
 use Rattle.og_refine.specs.Machines.{IsRunnable}
 use Rattle.og_refine.specs.Laws.{RunsTo}
-use Rattle.og_refine.proofs.Lawful.{exact_refusals, goes_on}
+use Rattle.og_refine.proofs.Lawful.{exact_refusals, goes_on, flat_notes}
 use Rattle.og_drain_facts.proofs.Stopped.{reached, drain_goes_on, drain_ends_quiet}
 use Rattle.og_headline.specs.Headline.{drawn}
-use Rattle.og_headline.specs.Laws.{SimulationsAreRuns, SimulationsGoOn}
+use Rattle.og_headline.specs.Laws.{SimulationsAreRuns, SimulationsAreFaithful, SimulationsGoOn}
 use Rattle.og_headline.proofs.Enabled.{enabled_free}
-use Rattle.og_headline.proofs.Sorted.{names_choices}
+use Rattle.og_headline.proofs.Sorted.{names_choices, copies_are_flat}
 
 -- ---- the next choice
 
@@ -112,3 +113,13 @@ simulation_runs setup number most ok =
     let g = goes setup number 0 most [] (start_machine setup) [] ok (refl, refl) in
     let d : Machine × List (Event Note) = drawn setup number most in
     (subst (λ (cs : List Choice). RunsTo setup cs d.0 d.1) (sym (names_choices setup g.given d.0 d.1 g.run)) g.run, g.within, g.full)
+
+pub simulation_holds : SimulationsAreFaithful
+simulation_holds setup number most ok =
+    let d : Machine × List (Event Note) = drawn setup number most in
+    let run : RunsTo setup (choices d.1) d.0 d.1 = (simulation_runs setup number most ok).0 in
+    record {
+      run = run;
+      flat = flat_notes setup (choices d.1) d.0 d.1 ok run;
+      copies = λ before after w is reached. copies_are_flat setup (choices before) w before ok reached;
+    }

@@ -33,7 +33,7 @@ names_choices setup given w events run =
 one_machine : (v w : Machine) → v.seats ≡ w.seats → v.flight ≡ w.flight → v ≡ w
 one_machine v w a b = ap (λ (xs : List (Seat ActorState)). record { seats = xs; flight = v.flight }) a ∙ ap (λ (ms : List (Msg Kind)). record { seats = w.seats; flight = ms }) b
 
-copies_are_flat : (setup : Setup) (given : List Choice) (w : Machine) (events : List (Event Note)) → IsRunnable setup → RunsTo setup given w events → CopiesAreFlat setup events w
+pub copies_are_flat : (setup : Setup) (given : List Choice) (w : Machine) (events : List (Event Note)) → IsRunnable setup → RunsTo setup given w events → CopiesAreFlat setup events w
 copies_are_flat setup given w events ok run = record {
   one_writer = lone_writers setup given w events ok run;
   lines = λ y page number placed low. held_lines setup given w events y page number ok run placed low;

@@ -37,6 +37,16 @@ pub record IsPrinted (setup : Setup) (events : List (Event Note)) (quiet : Bool)
   pub copies : (before after : List (Event Note)) (w : Machine) → events ≡ before ++ after → RunsTo setup (choices before) w before
       → CopiesAreFlat setup before w
 
+-- what is claimed of a run in the order in which it was made, which isn't printed
+pub record IsFaithful (setup : Setup) (events : List (Event Note)) (end : Machine) : Type 0 where
+  -- the choices of the events lead from the start to the end, with just these events
+  pub run : RunsTo setup (choices events) end events
+  -- what harts noted, in this order, is a run of one flat memory
+  pub flat : FlatRun setup.image setup.settings (hart_notes events)
+  -- in each state of the run the copies are the flat memory's after the events so far
+  pub copies : (before after : List (Event Note)) (w : Machine) → events ≡ before ++ after → RunsTo setup (choices before) w before
+      → CopiesAreFlat setup before w
+
 -- what a simulation makes: where it leads, and its events in the order in which they are made
 abbrev pub drawn : Setup → (number most : ℕ) → Machine × List (Event Note)
 drawn setup number most = drawn_from setup number 0 most (start_machine setup)

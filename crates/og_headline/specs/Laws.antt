@@ -10,7 +10,7 @@ use Rattle.og_machine.specs.Machine.{Setup, Machine, rules, refusal_of, is_quiet
 use Rattle.og_machine.specs.Choices.{next_choice}
 use Rattle.og_refine.specs.Machines.{IsRunnable}
 use Rattle.og_refine.specs.Laws.{RunsTo}
-use Rattle.og_headline.specs.Headline.{IsPrinted, IsRefused, drawn}
+use Rattle.og_headline.specs.Headline.{IsPrinted, IsFaithful, IsRefused, drawn}
 
 -- the events of a run, in the order of their stamps, are a printed one, which is quiet where the run's end is
 abbrev pub RunsArePrinted : Type 0
@@ -34,6 +34,13 @@ SimulationsAreRuns =
     → RunsTo setup (choices (drawn setup number most).1) (drawn setup number most).0 (drawn setup number most).1
     × (length (drawn setup number most).1 ≤ most)
     × (is_quiet (drawn setup number most).0 ≡ false → length (drawn setup number most).1 ≡ most)
+
+-- and of that run holds what holds of a printed one
+abbrev pub SimulationsAreFaithful : Type 0
+SimulationsAreFaithful =
+    (setup : Setup) (number most : ℕ)
+    → IsRunnable setup
+    → IsFaithful setup (drawn setup number most).1 (drawn setup number most).0
 
 -- where a machine isn't quiet there is a next choice of a simulation, whichever draw it comes to; it is enabled and has a step
 abbrev pub SimulationsGoOn : Type 0

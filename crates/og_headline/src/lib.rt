@@ -7,7 +7,7 @@
 //! There is no code to run: each function is a law, its contract, with an empty body.
 #![tactic(auto)]
 
-ghost use Rattle.og_headline.specs.Laws.{RunsArePrinted, SimulationsAreRuns, SimulationsGoOn, RunsNameChoices, RefusedChoicesAreNoRun};
+ghost use Rattle.og_headline.specs.Laws.{RunsArePrinted, SimulationsAreRuns, SimulationsAreFaithful, SimulationsGoOn, RunsNameChoices, RefusedChoicesAreNoRun};
 
 /// The events of a run from the start, in the order of their stamps, are a run that may be printed: the headline holds of it. And a run
 /// names its choices.
@@ -17,8 +17,10 @@ pub fn runs_are_printed()
 {}
 
 /// The events that a simulation draws are a run from the start, of so many events at most, and of just so many where its end isn't quiet.
+/// What is claimed of a printed run holds of them in the order in which they are drawn, too.
 pub fn simulations_are_runs()
-    ensures { SimulationsAreRuns }
+    ensures runs { SimulationsAreRuns }
+    ensures faithful { SimulationsAreFaithful }
 {}
 
 /// In a machine that isn't quiet a simulation has a next choice, which is enabled and has a step.

@@ -35,6 +35,7 @@ pub text_plays : (image : ImageState) (settings : Settings) (course : Course) (t
     → IsRunText (setup_of image settings) course text quiet → TextEnds text quiet old new result → PlayEnds image settings course old new result
 text_plays image settings course text quiet old new (Ok answer) placed run ends = (placed, (text, quiet, run, ends))
 text_plays image settings course text quiet old new (Err fault.Unread) placed run ends = absurd ends
+text_plays image settings course text quiet old new (Err fault.ChoicesUnread) placed run ends = absurd ends
 text_plays image settings course text quiet old new (Err (fault.Image f)) placed run ends = absurd ends
 text_plays image settings course text quiet old new (Err (fault.Choices f)) placed run ends = absurd ends
 text_plays image settings course text quiet old new (Err fault.Memory) placed run (inl same) = inl same
@@ -45,6 +46,7 @@ pub text_given : (image : ImageState) (settings : Settings) (choices : List Choi
     → IsRunText (setup_of image settings) (by_choices choices) text quiet → TextEnds text quiet old new result → GivenEnds image settings choices lines old new result
 text_given image settings choices lines text quiet old new (Ok answer) placed run ends = (placed, (text, quiet, run, ends))
 text_given image settings choices lines text quiet old new (Err fault.Unread) placed run ends = absurd ends
+text_given image settings choices lines text quiet old new (Err fault.ChoicesUnread) placed run ends = absurd ends
 text_given image settings choices lines text quiet old new (Err (fault.Image f)) placed run ends = absurd ends
 text_given image settings choices lines text quiet old new (Err (fault.Choices (choice.Grammar line))) placed run ends = absurd ends
 text_given image settings choices lines text quiet old new (Err (fault.Choices choice.Settings)) placed run ends = absurd ends

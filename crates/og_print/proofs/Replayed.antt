@@ -22,7 +22,7 @@ module _ (raw : Bool) (image choices : List ℕ) (words : Settings) (given : Giv
   -- a fault that the program of a file may have is none of its placing
   pub no_program : (after : ShelfState) (sink : SinkState) (u : Unused ImageFault) → ((need have : ℕ) → u ≡ unused.Fault (images.NoFrames need have) → ⊥) → ProgramLoads raw image shelf after (Err u)
       → ReplayEnds raw image choices words given shelf after sink sink (Err (image_unused u))
-  no_program after sink unused.Unread placed h = (refl, inl h)
+  no_program after sink unused.Unread placed h = (h, refl)
   no_program after sink (unused.Fault images.TooLong) placed h = (h.0, refl, h.1)
   no_program after sink (unused.Fault images.Raw) placed h = (h.0, refl, (h.1.0, h.1.1, h.1.2))
   no_program after sink (unused.Fault (images.Elf cause at)) placed h = (h.0, refl, (h.1.0, h.1.1, h.1.2))
@@ -31,7 +31,7 @@ module _ (raw : Bool) (image choices : List ℕ) (words : Settings) (given : Giv
 
   pub no_choices : (after : ShelfState) (bytes : List ℕ) (sink : SinkState) (u : Unused ChoiceFault) → HasProgram raw image shelf bytes → ChoicesLoad words given choices shelf after (Err u)
       → ReplayEnds raw image choices words given shelf after sink sink (Err (choices_unused u))
-  no_choices after bytes sink unused.Unread program h = (refl, inr ((bytes, program), h))
+  no_choices after bytes sink unused.Unread program h = (refl, ((bytes, program), h))
   no_choices after bytes sink (unused.Fault choice.TooLong) program h = (refl, ((bytes, program), h))
   no_choices after bytes sink (unused.Fault (choice.Grammar line)) program h = (refl, ((bytes, program), h))
   no_choices after bytes sink (unused.Fault choice.Settings) program h = (refl, ((bytes, program), h))
@@ -49,6 +49,7 @@ module _ (raw : Bool) (image choices : List ℕ) (words : Settings) (given : Giv
       → ReplayEnds raw image choices words given shelf after old new result
   played after old new (Ok answer) same files ends = (same, record { files = files; placed = ends.0; ended = ends.1 })
   played after old new (Err fault.Unread) same files ends = absurd ends
+  played after old new (Err fault.ChoicesUnread) same files ends = absurd ends
   played after old new (Err (fault.Image images.TooLong)) same files ends = absurd (not_frames _ _ (frames_are (file_image raw files.bytes files.loaded.settings.nodes) files.loaded.settings images.TooLong ends.1))
   played after old new (Err (fault.Image images.Raw)) same files ends = absurd (not_raw _ _ (frames_are (file_image raw files.bytes files.loaded.settings.nodes) files.loaded.settings images.Raw ends.1))
   played after old new (Err (fault.Image (images.Elf cause at))) same files ends =

@@ -45,6 +45,7 @@ pub played : (raw : Bool) (name : List ℕ) (settings : Settings) (number most :
     → program_fault raw bytes ≡ None → PlayEnds (file_image raw bytes settings.nodes) settings (by_draws number most) old new result → SimulationEnds raw name settings number most shelf after old new result
 played raw name settings number most shelf after bytes old new (Ok answer) same file sound ends = (same, (bytes, file, no_room raw bytes settings None sound ends.0, ends.1))
 played raw name settings number most shelf after bytes old new (Err fault.Unread) same file sound ends = absurd ends
+played raw name settings number most shelf after bytes old new (Err fault.ChoicesUnread) same file sound ends = absurd ends
 played raw name settings number most shelf after bytes old new (Err (fault.Choices f)) same file sound ends = absurd ends
 played raw name settings number most shelf after bytes old new (Err (fault.Image images.TooLong)) same file sound ends =
     absurd (not_long (length (pages_of (file_image raw bytes settings.nodes))) (settings.nodes * settings.frames) (frames_are (file_image raw bytes settings.nodes) settings images.TooLong ends.1))

@@ -13,7 +13,9 @@ use Rattle.og_io.specs.declared.SinkFault.{SinkFault}
 use Rattle.og_io.specs.declared.SinkFault.TheVariants as sink
 use Rattle.og_machine.specs.Machine.{Machine, is_quiet}
 use Rattle.og_machine.specs.Held.{held}
-use Rattle.og_headline.specs.Headline.{drawn}
+use Rattle.og_headline.specs.Headline.{IsFaithful, drawn}
+use Rattle.og_headline.proofs.Drawn.{simulation_holds}
+use Rattle.og_refine.specs.Machines.{IsRunnable}
 use Rattle.og_print.specs.declared.fault.RunFault.{RunFault}
 use Rattle.og_print.specs.declared.fault.RunFault.TheVariants as fault
 use Rattle.og_print.specs.Runs.{frames_fault, TextEnds}
@@ -62,13 +64,17 @@ storm_unplaced number loops settings most sink f (inl m) = subst (λ (x : RunFau
 storm_unplaced number loops settings most sink f (inr g) = subst (λ (x : RunFault). StormEnds number loops settings most sink sink (Err x)) (sym g.1) (refl, g.2)
 
 pub storm_ends : (number loops : ℕ) (settings : Settings) (most : ℕ) (old new : SinkState) (run : Machine × List (Event Note)) (result : Result Bool RunFault) → frames_fault (storm_of number loops settings.nodes) settings ≡ None
-    → run ≡ drawn (storm_setup number loops settings) number most → TextEnds (storm_text settings.nodes loops run) (is_quiet run.0) old new result → StormEnds number loops settings most old new result
-storm_ends number loops settings most old new run result placed is h = by result (subst (λ (r : Machine × List (Event Note)). TextEnds (storm_text settings.nodes loops r) (is_quiet r.0) old new result) is h)
+    → IsRunnable (storm_setup number loops settings) → run ≡ drawn (storm_setup number loops settings) number most → TextEnds (storm_text settings.nodes loops run) (is_quiet run.0) old new result → StormEnds number loops settings most old new result
+storm_ends number loops settings most old new run result placed ok is h = by result (subst (λ (r : Machine × List (Event Note)). TextEnds (storm_text settings.nodes loops r) (is_quiet r.0) old new result) is h)
   where
+    faithful : IsFaithful (storm_setup number loops settings) (drawn (storm_setup number loops settings) number most).1 (drawn (storm_setup number loops settings) number most).0
+    faithful = simulation_holds (storm_setup number loops settings) number most ok
+
     by : (x : Result Bool RunFault) → TextEnds (storm_text settings.nodes loops (drawn (storm_setup number loops settings) number most)) (is_quiet (drawn (storm_setup number loops settings) number most).0) old new x → StormEnds number loops settings most old new x
-    by (Ok answer) t = (placed, t)
+    by (Ok answer) t = (placed, faithful, t)
     by (Err fault.Unread) t = absurd t
+    by (Err fault.ChoicesUnread) t = absurd t
     by (Err (fault.Image f)) t = absurd t
     by (Err (fault.Choices f)) t = absurd t
-    by (Err fault.Memory) t = inr (placed, t)
-    by (Err fault.Unwritten) t = (placed, t)
+    by (Err fault.Memory) t = inr (placed, faithful, t)
+    by (Err fault.Unwritten) t = (placed, faithful, t)

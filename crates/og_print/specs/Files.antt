@@ -32,6 +32,7 @@ abbrev pub SimulationEnds : (raw : Bool) → List ℕ → Settings → (number m
 SimulationEnds raw name settings number most shelf after old new (Err fault.Unread) = FailedAt name shelf after × (new ≡ old)
 SimulationEnds raw name settings number most shelf after old new (Err (fault.Image images.TooLong)) = (after ≡ shelf) × (new ≡ old) × HasLongFile shelf.files name 67108864
 SimulationEnds raw name settings number most shelf after old new (Err (fault.Image f)) = (after ≡ shelf) × (new ≡ old) × ((bytes : List ℕ) × IsImageFile name shelf bytes × (image_fault raw bytes settings ≡ Some f))
+SimulationEnds raw name settings number most shelf after old new (Err fault.ChoicesUnread) = ⊥
 SimulationEnds raw name settings number most shelf after old new (Err (fault.Choices f)) = ⊥
 SimulationEnds raw name settings number most shelf after old new (Err fault.Memory) = (after ≡ shelf) × ((new ≡ old) ⊎ Simulates raw name settings number most shelf old new (Err fault.Memory))
 SimulationEnds raw name settings number most shelf after old new result = (after ≡ shelf) × Simulates raw name settings number most shelf old new result
@@ -84,7 +85,8 @@ ChoicesFail raw image choices words given shelf after unused = ((bytes : List �
 
 -- how a replay ends. The image file is read first, then the choices file, then the program is placed, then the choices are made
 abbrev pub ReplayEnds : (raw : Bool) → (image choices : List ℕ) → Settings → Given → ShelfState → ShelfState → SinkState → SinkState → Result Bool RunFault → Type 0
-ReplayEnds raw image choices words given shelf after old new (Err fault.Unread) = (new ≡ old) × (FailedAt image shelf after ⊎ ChoicesFail raw image choices words given shelf after unused.Unread)
+ReplayEnds raw image choices words given shelf after old new (Err fault.Unread) = FailedAt image shelf after × (new ≡ old)
+ReplayEnds raw image choices words given shelf after old new (Err fault.ChoicesUnread) = (new ≡ old) × ChoicesFail raw image choices words given shelf after unused.Unread
 ReplayEnds raw image choices words given shelf after old new (Err (fault.Image images.TooLong)) = (after ≡ shelf) × (new ≡ old) × HasLongFile shelf.files image 67108864
 ReplayEnds raw image choices words given shelf after old new (Err (fault.Image (images.NoFrames need have))) = (after ≡ shelf) × (new ≡ old) × LacksFrames raw image choices words given shelf (images.NoFrames need have)
 ReplayEnds raw image choices words given shelf after old new (Err (fault.Image f)) = (after ≡ shelf) × (new ≡ old) × ((bytes : List ℕ) × IsImageFile image shelf bytes × (program_fault raw bytes ≡ Some f))

@@ -28,7 +28,7 @@ image_unused (unused.Fault f) = fault.Image f
 image_unused unused.Memory = fault.Memory
 
 abbrev pub choices_unused : Unused ChoiceFault → RunFault
-choices_unused unused.Unread = fault.Unread
+choices_unused unused.Unread = fault.ChoicesUnread
 choices_unused (unused.Fault f) = fault.Choices f
 choices_unused unused.Memory = fault.Memory
 
@@ -83,6 +83,7 @@ RunEnds setup course old new result = (text : List ℕ) × (quiet : Bool) × IsR
 -- how a run of an image ends: with too few frames for its program; or, where there are enough, as the run; or for want of memory
 abbrev pub PlayEnds : ImageState → Settings → Course → SinkState → SinkState → Result Bool RunFault → Type 0
 PlayEnds image settings course old new (Err fault.Unread) = ⊥
+PlayEnds image settings course old new (Err fault.ChoicesUnread) = ⊥
 PlayEnds image settings course old new (Err (fault.Choices f)) = ⊥
 PlayEnds image settings course old new (Err (fault.Image f)) = (new ≡ old) × (frames_fault image settings ≡ Some f)
 PlayEnds image settings course old new (Err fault.Memory) = (new ≡ old) ⊎ ((frames_fault image settings ≡ None) × RunEnds (setup_of image settings) course old new (Err fault.Memory))

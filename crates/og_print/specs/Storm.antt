@@ -13,7 +13,7 @@ use Rattle.og_io.specs.declared.SinkFault.{SinkFault}
 use Rattle.og_io.specs.declared.SinkFault.TheVariants as sink
 use Rattle.og_machine.specs.Machine.{Setup, Machine, setup_of, is_quiet}
 use Rattle.og_machine.specs.Held.{held}
-use Rattle.og_headline.specs.Headline.{drawn}
+use Rattle.og_headline.specs.Headline.{IsFaithful, drawn}
 use Rattle.og_print.specs.declared.fault.RunFault.{RunFault}
 use Rattle.og_print.specs.declared.fault.RunFault.TheVariants as fault
 use Rattle.og_print.specs.Runs.{frames_fault, TextEnds}
@@ -82,16 +82,18 @@ answer_of (Ok done) quiet = Ok quiet
 answer_of (Err sink.Failed) quiet = Err fault.Unwritten
 answer_of (Err sink.Memory) quiet = Err fault.Memory
 
--- the program was placed, and the writing of the line of the run that is drawn from the number ended so
+-- the program was placed, and the writing of the line of the run that is drawn from the number ended so; what is claimed of a printed run
+-- holds of that one
 abbrev pub Storms : (number loops : ℕ) → Settings → (most : ℕ) → SinkState → SinkState → Result Bool RunFault → Type 0
 Storms number loops settings most old new result =
     let run = drawn (storm_setup number loops settings) number most in
-    (frames_fault (storm_of number loops settings.nodes) settings ≡ None) × TextEnds (storm_text settings.nodes loops run) (is_quiet run.0) old new result
+    (frames_fault (storm_of number loops settings.nodes) settings ≡ None) × IsFaithful (storm_setup number loops settings) run.1 run.0 × TextEnds (storm_text settings.nodes loops run) (is_quiet run.0) old new result
 
 -- how the storm ends: with its line, that of the run that is drawn from its number; with too few frames; or for want of memory
 abbrev pub StormEnds : (number loops : ℕ) → Settings → (most : ℕ) → SinkState → SinkState → Result Bool RunFault → Type 0
 StormEnds number loops settings most old new (Err (fault.Image f)) = (new ≡ old) × (frames_fault (storm_of number loops settings.nodes) settings ≡ Some f)
 StormEnds number loops settings most old new (Err fault.Unread) = ⊥
+StormEnds number loops settings most old new (Err fault.ChoicesUnread) = ⊥
 StormEnds number loops settings most old new (Err (fault.Choices f)) = ⊥
 StormEnds number loops settings most old new (Err fault.Memory) = (new ≡ old) ⊎ Storms number loops settings most old new (Err fault.Memory)
 StormEnds number loops settings most old new result = Storms number loops settings most old new result

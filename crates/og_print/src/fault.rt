@@ -7,8 +7,10 @@ use og_load::{ChoiceFault, ImageFault, Unused};
 /// Why a run isn't printed.
 #[derive(Clone, Copy, PartialEq, Eq, Debug)]
 pub enum RunFault {
-    /// A file couldn't be read. Its name is the last of the failed ones.
+    /// The image file couldn't be read.
     Unread,
+    /// The choices file couldn't be read.
+    ChoicesUnread,
     /// The image is refused.
     Image(ImageFault),
     /// The choices are refused.
@@ -53,7 +55,7 @@ impl From<Unused<ChoiceFault>> for RunFault {
 
     fn from(unused: Unused<ChoiceFault>) -> RunFault {
         match unused {
-            Unused::Unread => RunFault::Unread,
+            Unused::Unread => RunFault::ChoicesUnread,
             Unused::Fault(fault) => RunFault::Choices(fault),
             Unused::Memory => RunFault::Memory,
         }

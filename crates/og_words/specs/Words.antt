@@ -28,7 +28,7 @@
 --
 -- The default of `--rounds` is 2,000, or 4,000,000 div (turns times (nodes + 1)) where that is less. NUMBER is 0 to
 -- 2^64 - 1. A number is `0` or decimal digits without a leading zero.
-use Rattle.std.specs.Prelude.{ℕ, ◌+◌, ◌-◌, ◌*◌, ◌/◌, ◌^◌, Bool, true, false, not, ◌&&◌, ◌==◌, nat_le, min, if◌then◌else◌, List, [], ◌∷◌, codes, decimal, Option, None, Some, option_and_then, option_map, is_some, unwrap_or, string_bytes}
+use Rattle.std.specs.Prelude.{ℕ, ◌+◌, ◌-◌, ◌*◌, ◌/◌, ◌^◌, ◌≤◌, Bool, true, false, not, ◌&&◌, ◌==◌, nat_le, min, if◌then◌else◌, List, [], ◌∷◌, codes, decimal, Option, None, Some, option_and_then, option_map, is_some, unwrap_or, string_bytes}
 use Rattle.std.specs.List.{list_any, before_first, after_first}
 use Rattle.std.specs.Str.{bytes_eq}
 use Rattle.std.specs.Str.Parse.{digits_value}
@@ -415,3 +415,9 @@ job_in command r =
 abbrev pub job_of : List Text → Option JobState
 job_of [] = None
 job_of (first ∷ words) = option_and_then (λ command. option_and_then (λ r. job_in command r) (read_from command words nothing_read)) (command_of first)
+
+-- the numbers of a job on which what it asks for may rest: the loops of a storm, and the turns of a run in threads
+abbrev pub IsWithin : JobState → Type 0
+IsWithin (storm number settings loops events) = (1 ≤ loops) × (loops ≤ 2047)
+IsWithin (run image raw settings rounds turns) = rounds * turns_of_round settings.nodes turns ≤ 4000000
+IsWithin other = Unit {0}

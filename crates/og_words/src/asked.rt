@@ -1,8 +1,8 @@
 //! From the options and the command's own words to the job.
 
-ghost use Rattle.std.specs.Prelude.{◌≡◌, ◌≤◌, ◌*◌, ◌+◌, nat_le, IfSome, option_map};
+ghost use Rattle.std.specs.Prelude.{◌≡◌, ◌≤◌, ◌*◌, ◌+◌, nat_le, IfOk, IfSome, option_map};
 ghost use Rattle.og_base.specs.Settings.{settings_seen};
-ghost use Rattle.og_words.specs.Words.{number_of as number_chosen, given_of as given_in, given_seen, job_seen, settings_of as settings_with, one_of as one_in, two_of as two_in, job_in as job_asked, simulate_job, run_job, replay_job, storm_job, assemble_job, disassemble_job, command_job as job_of_command, default_rounds as usual_rounds, turns_of_round as turns_in_round};
+ghost use Rattle.og_words.specs.Words.{IsWithin, number_of as number_chosen, given_of as given_in, given_seen, job_seen, settings_of as settings_with, one_of as one_in, two_of as two_in, job_in as job_asked, simulate_job, run_job, replay_job, storm_job, assemble_job, disassemble_job, command_job as job_of_command, default_rounds as usual_rounds, turns_of_round as turns_in_round};
 ghost use Rattle.og_words.specs.Reading.{reading_seen, chosen_seen, word_seen, IsJob};
 
 use crate::command::{Command, Named};
@@ -100,7 +100,8 @@ fn two_of<'a>(reading: &Reading<'a>) -> Option<(&'a str, &'a str)>
 }
 
 fn simulate(alloc: Global, reading: &Reading<'_>, settings: Settings) -> Asked
-    ensures { IsJob (simulate_job (reading_seen reading.now) (settings_seen settings)) result }
+    ensures job { IsJob (simulate_job (reading_seen reading.now) (settings_seen settings)) result }
+    ensures within { IfOk result (λ asked. IfSome asked (λ job. IsWithin (job_seen job))) }
 {
     let Some(image) = one_of(reading) else {
         return Ok(None);
@@ -151,7 +152,8 @@ fn are_few(rounds: u32, turns: u32, nodes: u8) -> bool
 }
 
 fn run(alloc: Global, reading: &Reading<'_>, settings: Settings) -> Asked
-    ensures { IsJob (run_job (reading_seen reading.now) (settings_seen settings)) result }
+    ensures job { IsJob (run_job (reading_seen reading.now) (settings_seen settings)) result }
+    ensures within { IfOk result (λ asked. IfSome asked (λ job. IsWithin (job_seen job))) }
 {
     let Some(image) = one_of(reading) else {
         return Ok(None);
@@ -178,7 +180,8 @@ fn run(alloc: Global, reading: &Reading<'_>, settings: Settings) -> Asked
 }
 
 fn replay(alloc: Global, reading: &Reading<'_>, given: Given, settings: Settings) -> Asked
-    ensures { IsJob (replay_job (reading_seen reading.now) (given_seen given) (settings_seen settings)) result }
+    ensures job { IsJob (replay_job (reading_seen reading.now) (given_seen given) (settings_seen settings)) result }
+    ensures within { IfOk result (λ asked. IfSome asked (λ job. IsWithin (job_seen job))) }
 {
     let Some((image, choices)) = two_of(reading) else {
         return Ok(None);
@@ -195,7 +198,8 @@ fn replay(alloc: Global, reading: &Reading<'_>, given: Given, settings: Settings
 }
 
 fn storm(reading: &Reading<'_>, settings: Settings) -> Option<Job>
-    ensures { option_map job_seen result ≡ storm_job (reading_seen reading.now) (settings_seen settings) }
+    ensures job { option_map job_seen result ≡ storm_job (reading_seen reading.now) (settings_seen settings) }
+    ensures within { IfSome result (λ job. IsWithin (job_seen job)) }
 {
     let number = number_in(one_of(reading)?, 0, u64::MAX)?;
     let loops = small_of(Named::Loops, 1, 2047, &reading.chosen)?;
@@ -209,7 +213,8 @@ fn storm(reading: &Reading<'_>, settings: Settings) -> Option<Job>
 }
 
 fn assemble(alloc: Global, reading: &Reading<'_>) -> Asked
-    ensures { IsJob (assemble_job (reading_seen reading.now)) result }
+    ensures job { IsJob (assemble_job (reading_seen reading.now)) result }
+    ensures within { IfOk result (λ asked. IfSome asked (λ job. IsWithin (job_seen job))) }
 {
     let Some(source) = one_of(reading) else {
         return Ok(None);
@@ -219,7 +224,8 @@ fn assemble(alloc: Global, reading: &Reading<'_>) -> Asked
 }
 
 fn disassemble(alloc: Global, reading: &Reading<'_>) -> Asked
-    ensures { IsJob (disassemble_job (reading_seen reading.now)) result }
+    ensures job { IsJob (disassemble_job (reading_seen reading.now)) result }
+    ensures within { IfOk result (λ asked. IfSome asked (λ job. IsWithin (job_seen job))) }
 {
     let Some(image) = one_of(reading) else {
         return Ok(None);
@@ -236,7 +242,8 @@ fn command_job(
     given: Given,
     settings: Settings,
 ) -> Asked
-    ensures { IsJob (job_of_command command (reading_seen reading.now) (given_seen given) (settings_seen settings)) result }
+    ensures job { IsJob (job_of_command command (reading_seen reading.now) (given_seen given) (settings_seen settings)) result }
+    ensures within { IfOk result (λ asked. IfSome asked (λ job. IsWithin (job_seen job))) }
 {
     match command {
         Command::Simulate => simulate(alloc, reading, settings),
@@ -250,7 +257,8 @@ fn command_job(
 
 /// The job that the words after the command ask for.
 pub(crate) fn job_in(alloc: Global, command: Command, reading: &Reading<'_>) -> Asked
-    ensures { IsJob (job_asked command (reading_seen reading.now)) result }
+    ensures job { IsJob (job_asked command (reading_seen reading.now)) result }
+    ensures within { IfOk result (λ asked. IfSome asked (λ job. IsWithin (job_seen job))) }
 {
     if reading.waiting.is_some() {
         return Ok(None);

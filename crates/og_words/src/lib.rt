@@ -14,7 +14,7 @@ mod tests;
 
 ghost use Rattle.std.specs.Prelude.{◌≡◌, ◌↔◌, Err, None, IfOk, Some};
 ghost use Rattle.og_io.specs.Outside.{texts};
-ghost use Rattle.og_words.specs.Words.{job_of, job_seen};
+ghost use Rattle.og_words.specs.Words.{job_of, job_seen, IsWithin};
 
 pub use command::Command;
 pub use job::{Given, Job};
@@ -33,6 +33,7 @@ pub enum WordsFault {
 pub fn read_words(alloc: Global, words: &[String]) -> Result<Job, WordsFault>
     ensures words { result ≡ Err WordsFault.Words ↔ (job_of (texts words.now) ≡ None) }
     ensures job { IfOk result (λ job. job_of (texts words.now) ≡ Some (job_seen job)) }
+    ensures within { IfOk result (λ job. IsWithin (job_seen job)) }
 {
     let [first, rest @ ..] = words else {
         return Err(WordsFault::Words);

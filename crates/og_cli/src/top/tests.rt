@@ -1,3 +1,4 @@
+mod choices;
 mod tools;
 
 use super::*;
@@ -12,10 +13,10 @@ const STORE: &[u8] = b"\x1c\x00\x00\x00\xb7\x05\x10\x00\x13\x06\xa0\x02\x23\xa0\
 
 // What its run prints.
 const TEXT: &[u8] =
-    b"origin 2 1 64 64 2 8 1000000 64 32 4 1024\nact 0\nact 0\nact 0\ntake 0 0 0\ntake 0 0 1\n\
-    at 5 0 store 0000000000100000 4 000000000000002a\nact 0\n\
-    at 6 0 load 0000000000100000 4 = 000000000000002a\nact 0\nact 0\nact 0\n\
-    at 9 0 exit 0000000000000000\nquiet 9 2\n";
+    b"origin 2 1 64 64 2 8 1000000 64 32 4 1024\nact 0\nact 0\nact 0\ntake 1 0 0\ntake 0 1 0\n\
+    act 0\ntake 0 0 1\ntake 0 0 2\nat 8 0 store 0000000000100000 4 000000000000002a\nact 0\n\
+    at 9 0 load 0000000000100000 4 = 000000000000002a\nact 0\nact 0\nact 0\n\
+    at 12 0 exit 0000000000000000\nquiet 12 2\n";
 
 // How a command ended, and what it wrote.
 #[derive(Drop)]
@@ -96,10 +97,10 @@ fn a_run_prints_its_text(rt: HostRuntime) -> Result<(), Fail> {
             b"origin 2 1 64 64 2 8 1000000 64 32 4 1024\nlimit 0 0\n",
         ),
         (
-            "simulate store.raw --raw --events 5",
+            "simulate store.raw --raw --events 8",
             3,
-            b"origin 2 1 64 64 2 8 1000000 64 32 4 1024\nact 0\nact 0\nact 0\ntake 0 0 0\ntake 0 0 1\n\
-            at 5 0 store 0000000000100000 4 000000000000002a\nlimit 5 1\n",
+            b"origin 2 1 64 64 2 8 1000000 64 32 4 1024\nact 0\nact 0\nact 0\ntake 1 0 0\ntake 0 1 0\n\
+            act 0\ntake 0 0 1\ntake 0 0 2\nat 8 0 store 0000000000100000 4 000000000000002a\nlimit 8 1\n",
         ),
         ("simulate store.raw --events 9 --raw", 0, TEXT),
         ("simulate --raw --nodes=1 store.raw", 0, TEXT),
@@ -206,12 +207,30 @@ fn a_refusal_is_one_line(rt: HostRuntime) -> Result<(), Fail> {
         ("run store.raw --raw", 2, b"origin: words\n"),
         ("simulate store.raw", 4, b"origin: image NotElf at 0\n"),
         ("simulate missing", 1, b"origin: cannot read missing\n"),
-        ("replay store.raw missing --raw", 9, b"origin: not built\n"),
-        ("storm 7 --loops 1", 9, b"origin: not built\n"),
         (
-            "simulate store.raw --raw --nodes 2",
-            9,
-            b"origin: not built\n",
+            "replay store.raw missing --raw",
+            1,
+            b"origin: cannot read missing\n",
+        ),
+        (
+            "replay missing store.raw --raw",
+            1,
+            b"origin: cannot read missing\n",
+        ),
+        (
+            "replay store.raw missing",
+            4,
+            b"origin: image NotElf at 0\n",
+        ),
+        (
+            "replay store.raw store.raw --raw",
+            6,
+            b"origin: choices line 1 Grammar\n",
+        ),
+        (
+            "storm 7 --nodes 128 --frames 2",
+            4,
+            b"origin: image NoFrames need 264 have 256\n",
         ),
         (
             "simulate missing --raw",
@@ -472,7 +491,8 @@ fn an_untold_line_changes_no_status(rt: HostRuntime) -> Result<(), Fail> {
     let table: &[(&str, u8)] = &[
         ("simulate", 2),
         ("simulate store.raw", 4),
-        ("storm 7", 9),
+        ("replay store.raw store.raw --raw", 6),
+        ("storm 7 --loops 1", 14),
         ("simulate missing --raw", 1),
         ("simulate store.raw --raw", 14),
         ("assemble store.raw", 12),

@@ -1,5 +1,0 @@
-use Rattle.og_core.proofs.Notes.{notes_stand}
-use Rattle.og_core.proofs.laws.hart_notes_stand.Goals as goal
-
-pub returns : goal.returns
-returns c before after event noted is mine = notes_stand before after event noted is mine
