@@ -1,5 +1,5 @@
 -- What nothing hinders is done, or memory wants.
-use Rattle.std.proofs.Common.{◌≡◌, ℕ, ◌≤◌, nat_lt, arith, Bool, true, false, List, length, Option, None, Some, Result, Ok, Err, ◌⊎◌, inl, inr, refl, ap, subst, sym, tt}
+use Rattle.std.proofs.Common.{◌≡◌, ℕ, ◌≤◌, nat_lt, arith, Bool, true, false, List, length, Option, None, Some, Result, Ok, Err, ◌⊎◌, inl, inr, refl, ap, subst, sym}
 use Rattle.std.proofs.lemmas.Bool.Decides.{nat_tests}
 use Rattle.og_base.specs.declared.NotEnabled.{NotEnabled}
 use Rattle.og_base.specs.declared.Settings.{Settings}
@@ -50,7 +50,7 @@ simulated raw name settings number most shelf after old new (Err (fault.Image (i
 simulated raw name settings number most shelf after old new (Err (fault.Image (images.NoFrames need have))) (same, kept, (bytes, file, wrong)) fine read written = no_fault raw name settings shelf bytes (images.NoFrames need have) fine file wrong
 simulated raw name settings number most shelf after old new (Err (fault.Choices f)) ends fine read written = absurd ends
 simulated raw name settings number most shelf after old new (Err fault.Memory) ends fine read written = inr refl
-simulated raw name settings number most shelf after old new (Err fault.Unwritten) (same, (bytes, file, sound, (text, quiet, run, cut))) fine read written = no_rise old.faults new.faults written cut.1
+simulated raw name settings number most shelf after old new (Err fault.Unwritten) (same, (bytes, file, sound, (text, quiet, ran, cut))) fine read written = no_rise old.faults new.faults written cut.1
 
 -- ------------------------------------------------------------ a replay
 

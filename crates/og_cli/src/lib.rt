@@ -10,7 +10,7 @@
 
 pub mod exit;
 pub mod program;
-mod report;
-mod runs;
+pub mod report;
+pub mod runs;
 mod tools;
 pub mod top;

@@ -44,12 +44,12 @@ pub fn run_words<F: Shelf, K: Sink, E: Sink>(
 }
 
 /// The arguments of the program; None where the system doesn't give them.
-fn arguments(rt: &HostRuntime) -> Option<Vec<String>> {
+pub fn arguments(rt: &HostRuntime) -> Option<Vec<String>> {
     env::args(rt).ok()?.collect(rt.alloc()).ok()
 }
 
 /// The words: the arguments after the program's name, which is the first of them.
-fn after_name(arguments: &[String]) -> &[String]
+pub fn after_name(arguments: &[String]) -> &[String]
     ensures { texts result.now ≡ drop 1 (texts arguments.now) }
 {
     match arguments {

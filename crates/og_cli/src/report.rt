@@ -150,13 +150,13 @@ fn report_source<E: Sink>(fault: SourceFault, err: &mut E)
 
 /// The names of the files that the words give, empty where there is none.
 #[derive(Clone, Copy)]
-pub(crate) struct Names<'a> {
-    pub(crate) first: &'a str,
-    pub(crate) choices: &'a str,
+pub struct Names<'a> {
+    pub first: &'a str,
+    pub choices: &'a str,
 }
 
 /// Writes the one line that tells the answer.
-pub(crate) fn report<E: Sink>(exit: &Exit, names: &Names<'_>, err: &mut E)
+pub fn report<E: Sink>(exit: &Exit, names: &Names<'_>, err: &mut E)
     ensures { IsReported (error_line (names_seen names.now) exit.now) (E.seen err.old) (E.seen err.new) }
 {
     match *exit {

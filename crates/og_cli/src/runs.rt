@@ -13,7 +13,7 @@ use og_words::Given;
 use std::alloc::Global;
 
 /// The answer to how a run ended.
-fn ended(run: Result<bool, RunFault>) -> Exit
+pub fn ended(run: Result<bool, RunFault>) -> Exit
     ensures { result ≡ run_exit run }
 {
     match run {

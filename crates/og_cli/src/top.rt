@@ -103,7 +103,7 @@ pub fn origin_alone<F: Shelf, K: Sink, E: Sink>(
 }
 
 /// The answer to words that aren't understood, or for want of memory.
-fn refuse<E: Sink>(fault: WordsFault, err: &mut E) -> Exit
+pub fn refuse<E: Sink>(fault: WordsFault, err: &mut E) -> Exit
     ensures answer { result ≡ refused_of fault }
     ensures reported { IsReported (error_line no_names result) (E.seen err.old) (E.seen err.new) }
 {

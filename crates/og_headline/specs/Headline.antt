@@ -44,8 +44,7 @@ pub record IsFaithful (setup : Setup) (events : List (Event Note)) (end : Machin
   -- what harts noted, in this order, is a run of one flat memory
   pub flat : FlatRun setup.image setup.settings (hart_notes events)
   -- in each state of the run the copies are the flat memory's after the events so far
-  pub copies : (before after : List (Event Note)) (w : Machine) → events ≡ before ++ after → RunsTo setup (choices before) w before
-      → CopiesAreFlat setup before w
+  pub copies : (before after : List (Event Note)) (w : Machine) → events ≡ before ++ after → RunsTo setup (choices before) w before → CopiesAreFlat setup before w
 
 -- what a simulation makes: where it leads, and its events in the order in which they are made
 abbrev pub drawn : Setup → (number most : ℕ) → Machine × List (Event Note)

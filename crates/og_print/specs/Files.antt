@@ -1,4 +1,4 @@
--- How a simulation and a replay end: by what their files hold, and with what becomes of shelf and sink.
+-- How a simulation, a replay and any other run of the program in a file end: by what their files hold, and with what becomes of shelf and sink.
 use Rattle.std.specs.Prelude.{◌≡◌, ℕ, ◌⊎◌, Bool, Option, None, Some, Result, Ok, Err, List, slice_get}
 use Rattle.og_base.specs.declared.NotEnabled.{NotEnabled}
 use Rattle.og_base.specs.declared.Settings.{Settings}
@@ -19,23 +19,28 @@ use Rattle.og_print.specs.declared.fault.RunFault.TheVariants as fault
 use Rattle.og_runs.specs.declared.Choice.{Choice}
 use Rattle.og_image.specs.Image.{ImageState}
 use Rattle.og_machine.specs.Machine.{setup_of}
-use Rattle.og_print.specs.Runs.{file_setup, frames_fault, image_fault, by_draws, by_choices, RunEnds, PlayEnds}
+use Rattle.og_print.specs.Runs.{Course, file_setup, frames_fault, image_fault, by_draws, by_choices, RunEnds, PlayEnds}
 
--- ------------------------------------------------------------ a simulation
+-- ------------------------------------------------------------ a run of the program in a file
 
 -- the file was read and its program placed, and the run ended so
-abbrev pub Simulates : (raw : Bool) → List ℕ → Settings → (number most : ℕ) → ShelfState → SinkState → SinkState → Result Bool RunFault → Type 0
-Simulates raw name settings number most shelf old new result =
-    (bytes : List ℕ) × IsImageFile name shelf bytes × (image_fault raw bytes settings ≡ None) × RunEnds (file_setup raw bytes settings) (by_draws number most) old new result
+abbrev pub FileRuns : (raw : Bool) → List ℕ → Settings → Course → ShelfState → SinkState → SinkState → Result Bool RunFault → Type 0
+FileRuns raw name settings course shelf old new result =
+    (bytes : List ℕ) × IsImageFile name shelf bytes × (image_fault raw bytes settings ≡ None) × RunEnds (file_setup raw bytes settings) course old new result
 
+-- how such a run ends, whose choices come from the course
+abbrev pub FileEnds : (raw : Bool) → List ℕ → Settings → Course → ShelfState → ShelfState → SinkState → SinkState → Result Bool RunFault → Type 0
+FileEnds raw name settings course shelf after old new (Err fault.Unread) = FailedAt name shelf after × (new ≡ old)
+FileEnds raw name settings course shelf after old new (Err fault.ChoicesUnread) = ⊥
+FileEnds raw name settings course shelf after old new (Err (fault.Image images.TooLong)) = (after ≡ shelf) × (new ≡ old) × HasLongFile shelf.files name 67108864
+FileEnds raw name settings course shelf after old new (Err (fault.Image f)) = (after ≡ shelf) × (new ≡ old) × ((bytes : List ℕ) × IsImageFile name shelf bytes × (image_fault raw bytes settings ≡ Some f))
+FileEnds raw name settings course shelf after old new (Err (fault.Choices f)) = ⊥
+FileEnds raw name settings course shelf after old new (Err fault.Memory) = (after ≡ shelf) × ((new ≡ old) ⊎ FileRuns raw name settings course shelf old new (Err fault.Memory))
+FileEnds raw name settings course shelf after old new result = (after ≡ shelf) × FileRuns raw name settings course shelf old new result
+
+-- how a simulation ends
 abbrev pub SimulationEnds : (raw : Bool) → List ℕ → Settings → (number most : ℕ) → ShelfState → ShelfState → SinkState → SinkState → Result Bool RunFault → Type 0
-SimulationEnds raw name settings number most shelf after old new (Err fault.Unread) = FailedAt name shelf after × (new ≡ old)
-SimulationEnds raw name settings number most shelf after old new (Err (fault.Image images.TooLong)) = (after ≡ shelf) × (new ≡ old) × HasLongFile shelf.files name 67108864
-SimulationEnds raw name settings number most shelf after old new (Err (fault.Image f)) = (after ≡ shelf) × (new ≡ old) × ((bytes : List ℕ) × IsImageFile name shelf bytes × (image_fault raw bytes settings ≡ Some f))
-SimulationEnds raw name settings number most shelf after old new (Err fault.ChoicesUnread) = ⊥
-SimulationEnds raw name settings number most shelf after old new (Err (fault.Choices f)) = ⊥
-SimulationEnds raw name settings number most shelf after old new (Err fault.Memory) = (after ≡ shelf) × ((new ≡ old) ⊎ Simulates raw name settings number most shelf old new (Err fault.Memory))
-SimulationEnds raw name settings number most shelf after old new result = (after ≡ shelf) × Simulates raw name settings number most shelf old new result
+SimulationEnds raw name settings number most shelf after old new result = FileEnds raw name settings (by_draws number most) shelf after old new result
 
 -- ------------------------------------------------------------ a replay
 

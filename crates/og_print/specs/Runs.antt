@@ -49,20 +49,22 @@ image_fault raw bytes settings = option_or (program_fault raw bytes) (frames_fau
 
 -- ------------------------------------------------------------ which run
 
--- the choices of a run: those that are drawn from a number, for so many events at most, or those that are given
-pub data Course : Type 0 where
-  by_draws : (number most : ℕ) → Course
-  by_choices : List Choice → Course
+-- where the choices of a run come from: which runs, with which events and whether they end quiet, are such
+abbrev pub Course : Type 1
+Course = Setup → List (Event Note) → Bool → Type 0
 
--- a run of this course
-abbrev pub IsCourse : Setup → Course → List (Event Note) → Bool → Type 0
-IsCourse setup (by_draws number most) events quiet = IsSimulation setup number most events quiet
-IsCourse setup (by_choices choices) events quiet = IsReplay setup choices events quiet
+-- they are drawn from a number, for so many events at most
+abbrev pub by_draws : (number most : ℕ) → Course
+by_draws number most setup events quiet = IsSimulation setup number most events quiet
+
+-- they are given
+abbrev pub by_choices : List Choice → Course
+by_choices choices setup events quiet = IsReplay setup choices events quiet
 
 -- the text of a run of this course
 pub record IsRunText (setup : Setup) (course : Course) (text : List ℕ) (quiet : Bool) : Type 0 where
   pub events : List (Event Note)
-  pub run : IsCourse setup course events quiet
+  pub run : course setup events quiet
   pub text_is : text ≡ text_with (head_seen (settings_seen setup.settings)) events quiet
 
 -- ------------------------------------------------------------ printing

@@ -14,7 +14,7 @@ use og_load::ImageFault;
 use std::alloc::Global;
 
 /// The machine of an image at its start, where there are frames for its pages.
-pub(crate) fn place(alloc: Global, image: &Image, settings: &Settings) -> Result<Machine, RunFault>
+pub fn place_machine(alloc: Global, image: &Image, settings: &Settings) -> Result<Machine, RunFault>
     requires { settings.now.nodes ≡ image.now.nodes }
     ensures start { IfOk result (λ machine. IsAtStart image.now machine) }
     ensures setup { IfOk result (λ machine. setup_in image.now machine ≡ setup_of image.now settings.now) }

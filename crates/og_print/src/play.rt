@@ -5,8 +5,8 @@ ghost use Rattle.og_print.specs.Runs.{PlayEnds, by_draws};
 ghost use Rattle.og_print.specs.Files.{GivenEnds};
 
 use crate::RunFault;
-use crate::place::place;
-use crate::text::print;
+use crate::place::place_machine;
+use crate::text::print_run;
 use og_base::{Choice, Settings};
 use og_driver::{Unmade, replay, simulate};
 use og_image::Image;
@@ -26,9 +26,9 @@ pub(crate) fn play_drawn<K: Sink>(
     requires { settings.now.nodes ≡ image.now.nodes }
     ensures { PlayEnds image.now settings.now (by_draws number most) (K.seen out.old) (K.seen out.new) result }
 {
-    let mut machine = place(alloc, image, settings)?;
+    let mut machine = place_machine(alloc, image, settings)?;
     let made = simulate(alloc, image, &mut machine, number, most)?;
-    print(alloc, settings, &made, out)
+    print_run(alloc, settings, &made, out)
 }
 
 /// Makes the choices on the program of an image. They stand in these lines.
@@ -45,9 +45,9 @@ pub(crate) fn play_given<K: Sink>(
     requires few { length choices.now ≤ 16777217 }
     ensures { GivenEnds image.now settings.now choices.now lines.now (K.seen out.old) (K.seen out.new) result }
 {
-    let mut machine = place(alloc, image, settings)?;
+    let mut machine = place_machine(alloc, image, settings)?;
     match replay(alloc, image, &mut machine, choices) {
-        Ok(made) => print(alloc, settings, &made, out),
+        Ok(made) => print_run(alloc, settings, &made, out),
         Err(Unmade::Refused { at, cause }) => Err(RunFault::Choices(ChoiceFault::Refused {
             line: lines[at],
             cause,

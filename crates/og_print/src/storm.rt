@@ -7,7 +7,7 @@ ghost use Rattle.og_print.specs.Runs.{TextEnds};
 ghost use Rattle.og_print.specs.Storm.{StormEnds, LineEnds, answer_of, line_sum as sum_of_line, storm_sum as sum_of_storm, is_move as notes_move, moves_of, storm_line, quiet_end, limit_end, storm_text};
 
 use crate::RunFault;
-use crate::place::place;
+use crate::place::place_machine;
 use itoa::Buffer;
 use og_base::{Settings, VPage};
 use og_driver::advance;
@@ -172,7 +172,7 @@ pub fn print_storm<K: Sink>(
     ensures { StormEnds number loops settings.now most (K.seen out.old) (K.seen out.new) result }
 {
     let image = storm_image(alloc, number, loops, settings.nodes)?;
-    let mut machine = place(alloc, &image, settings)?;
+    let mut machine = place_machine(alloc, &image, settings)?;
     let events = advance(alloc, &image, &mut machine, number, most)?;
     write_storm(settings.nodes, loops, &machine, &events, out)
 }

@@ -13,7 +13,7 @@ use og_trace::write_text;
 use std::alloc::Global;
 
 /// Writes the text of a run, and answers whether it ended quiet.
-pub(crate) fn print<K: Sink>(
+pub fn print_run<K: Sink>(
     alloc: Global,
     settings: &Settings,
     run: &Run,

@@ -26,5 +26,5 @@ returns-in-Err-Refused g c =
 
 pub returns-in-Ok : goal.returns-in-Ok
 returns-in-Ok g c =
-    text_given c.args.image.now c.args.settings.now c.args.choices.now c.args.lines.now _ _ (g.K.Sink.seen c.args.out.now) (g.K.Sink.seen c.print.new.out) c.print.result c.in_ok-machine.ensures.frames
-    (record { events = _; run = subst (λ (s : Setup). IsReplay s c.args.choices.now c.in-Ok.made.events.items c.in-Ok.made.quiet) c.in_ok-machine.ensures.setup c.in-Ok.ensures.run; text_is = refl }) c.print.ensures
+    text_given c.args.image.now c.args.settings.now c.args.choices.now c.args.lines.now _ _ (g.K.Sink.seen c.args.out.now) (g.K.Sink.seen c.print_run.new.out) c.print_run.result c.in_ok-machine.ensures.frames
+    (record { events = _; run = subst (λ (s : Setup). IsReplay s c.args.choices.now c.in-Ok.made.events.items c.in-Ok.made.quiet) c.in_ok-machine.ensures.setup c.in-Ok.ensures.run; text_is = refl }) c.print_run.ensures

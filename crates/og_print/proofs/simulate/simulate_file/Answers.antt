@@ -13,10 +13,10 @@ returns-clause-ends g c =
     let after : ShelfState = g.F.Shelf.seen c.load_program.new.shelf in
     let p = c.in_ok-program.ensures.loads in
     let image : c.in_ok-image.image ≡ file_image c.args.raw p.1.0 c.args.settings.now.nodes = c.in_ok-image.ensures.made ∙ ap (λ (e : Elf). image_of e.entry e.segments c.args.settings.now.nodes) p.1.3 in
-    played c.args.raw c.args.name.now c.args.settings.now c.args.number c.args.most shelf after p.1.0 (g.K.Sink.seen c.args.out.now) (g.K.Sink.seen c.play_drawn.new.out) c.play_drawn.result p.0 p.1.1 p.1.2
+    played c.args.raw c.args.name.now c.args.settings.now (by_draws c.args.number c.args.most) shelf after p.1.0 (g.K.Sink.seen c.args.out.now) (g.K.Sink.seen c.play_drawn.new.out) c.play_drawn.result p.0 p.1.1 p.1.2
     (subst (λ (i : ImageState). PlayEnds i c.args.settings.now (by_draws c.args.number c.args.most) (g.K.Sink.seen c.args.out.now) (g.K.Sink.seen c.play_drawn.new.out) c.play_drawn.result) image c.play_drawn.ensures)
 
 pub returns-in_err-program-clause-ends : goal.returns-in_err-program-clause-ends
 returns-in_err-program-clause-ends g c =
-    unloaded_result c.args.raw c.args.name.now c.args.settings.now c.args.number c.args.most (g.F.Shelf.seen c.args.shelf.now) (g.F.Shelf.seen c.load_program.new.shelf) (g.K.Sink.seen c.args.out.now) c.in_err-program.field-0.0 c.from_residual.result
+    unloaded_result c.args.raw c.args.name.now c.args.settings.now (by_draws c.args.number c.args.most) (g.F.Shelf.seen c.args.shelf.now) (g.F.Shelf.seen c.load_program.new.shelf) (g.K.Sink.seen c.args.out.now) c.in_err-program.field-0.0 c.from_residual.result
     c.in_err-program.ensures.loads c.from_residual.ensures.1
