@@ -4,11 +4,11 @@
 #   ./origin assemble examples/page-stays.asm > examples/page-stays.raw
 #   ./origin simulate examples/page-stays.raw --raw --nodes 3 --trigger 8 --sharing 4
 #
-# The page at 0x100000 stands in frame 0.0, so node 0 is its home. Both users are ahead of it soon by 8 requests. But a move to one
-# of them would take the page away from the other: the mover refuses it where a third node has made as many requests as
+# The page at 0x100000 stands in frame 0.0, so node 0 is its home. Both users are ahead of it soon, by 8 requests. But a move to
+# one of them would take the page away from the other: the mover refuses it where a third node has made as many requests as
 # `--sharing` says.
-# To look for: the lines of `no shared`, with the frame and the node that would have got the page. With `--sharing 1000` the page
-# moves, though it gains nothing by it.
+# To look for: the lines of `no shared`, with the frame, and the node that would have got the page. With `--sharing 1000` the
+# page moves, though nothing is gained by it.
     beq a0, zero, done
     addi s1, zero, 4        # how many rounds
     addi s2, zero, 1
