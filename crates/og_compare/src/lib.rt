@@ -3,8 +3,9 @@
 //! Below stands the command; above stand programs that name examples. Of an example there are the files
 //! `NAME.asm`, its source, `NAME.raw`, the image, and `NAME.out`, the text. An example that is named as
 //! `NAME.elf` has its image in that file, in ELF, and in `NAME.hex` its bytes in hexadecimal digits with
-//! comments. The source is assembled and the image run through the command, and what is found is written,
-//! a line for each example. Reading the files has no contract; what is found of them has (`compare`).
+//! comments. `NAME.words` has the further words of its run, where there are any. The source is assembled and
+//! the image run through the command, and what is found is written, a line for each example. Reading the
+//! files has no contract; what is found of them has (`compare`).
 #![tactic(auto)]
 
 ghost use Rattle.std.specs.Prelude.{◌≡◌, ◌≢◌, ◌↔◌};
@@ -62,7 +63,8 @@ fn check(rt: &HostRuntime, name: &str) -> io::Result<Finding> {
     let text = fs::read(rt, format!(in alloc; "{stem}.out")?.as_str())?;
     let bytes = bytes_of(rt, stem, ending)?;
     let mut out = MemorySink::make(alloc, 65_536, Vec::new(alloc));
-    let exit = run(rt, file, ending == "raw", &mut out)?;
+    let words = words_of(rt, stem)?;
+    let exit = run(rt, file, ending == "raw", words.as_str(), &mut out)?;
     Ok(compare(&bytes, &image, exit, out.held(), &text))
 }
 
@@ -85,12 +87,32 @@ pub fn compare(bytes: &[u8], image: &[u8], exit: Exit, printed: &[u8], text: &[u
     }
 }
 
-/// Runs an image, a raw one or one in ELF.
-fn run(rt: &HostRuntime, image: String, is_raw: bool, out: &mut MemorySink) -> io::Result<Exit> {
+/// The further words of an example's run; none where no file has them.
+fn words_of(rt: &HostRuntime, stem: &str) -> io::Result<String> {
+    let alloc = rt.alloc();
+    let file = format!(in alloc; "{stem}.words")?;
+    match fs::read_to_string(rt, file.as_str()) {
+        Ok(words) => Ok(words),
+        Err(error) if error.kind() == io::ErrorKind::NotFound => Ok(String::new(alloc)),
+        Err(error) => Err(error),
+    }
+}
+
+/// Runs an image, a raw one or one in ELF, with further words.
+fn run(
+    rt: &HostRuntime,
+    image: String,
+    is_raw: bool,
+    further: &str,
+    out: &mut MemorySink,
+) -> io::Result<Exit> {
     let alloc = rt.alloc();
     let mut words = vec![in alloc; String::from_str(alloc, "simulate")?, image]?;
     if is_raw {
         words.push(String::from_str(alloc, "--raw")?)?;
+    }
+    for word in further.split_whitespace() {
+        words.push(String::from_str(alloc, word)?)?;
     }
     Ok(command(rt, &words, out))
 }
