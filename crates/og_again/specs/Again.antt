@@ -21,7 +21,7 @@ pub record IsPrintedText (raw : Bool) (bytes : List ℕ) (settings : Settings) (
 abbrev pub TellsFile : ShelfState → List ℕ → List ℕ → Type 0
 TellsFile shelf name bytes = IsSomeAnd shelf.files (λ files. file_of files name ≡ Some bytes)
 
--- a text with more bytes, or more lines, than a choices file may have
+-- a text with more bytes, or more line feeds, than a choices file may have
 abbrev pub IsTooLong : List ℕ → Type 0
 IsTooLong text = (536870912 < length text) ⊎ (16777216 < feeds_of text)
 

@@ -50,8 +50,8 @@ SimulationsPrintTexts =
     → SimulationEnds raw name settings number most shelf after old new (Ok quiet)
     → (text : List ℕ) × (new ≡ with_appended old text) × IsPrintedText raw bytes settings (by_draws number most) text quiet
 
--- a replay of a printed text, with the image that it was printed of, ends as the writing of this text: it isn't outside the grammar, its
--- settings differ from none that the words give where the run's don't, and no choice in it is refused
+-- a replay of a printed text, with the image that it was printed of and with words that give no other settings, ends as the writing of this
+-- text: it is never answered that a line is outside the grammar, that settings differ, or that a choice is refused
 abbrev pub TextsReplay : Type 0
 TextsReplay =
     (raw : Bool) (bytes : List ℕ) (settings : Settings) (course : Course) (text : List ℕ) (quiet : Bool)
