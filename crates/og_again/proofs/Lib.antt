@@ -1,0 +1,6 @@
+pub mod Order
+pub mod Unique
+pub mod Numbers
+pub mod Lengths
+pub mod Programs
+pub mod Replayed

@@ -1,0 +1,11 @@
+pub mod Sends
+pub mod Integers
+pub mod Effects
+pub mod Bytes
+pub mod Harts
+pub mod Lines
+pub mod Movers
+pub mod Flats
+pub mod Notes
+pub mod Events
+pub mod Texts
