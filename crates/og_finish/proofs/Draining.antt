@@ -1,5 +1,5 @@
 -- The drain of a stopped machine, event by event, to its end.
-use Rattle.std.proofs.Common.{◌≡◌, ◌∙◌, ℕ, zero, suc, ◌+◌, ◌*◌, ◌<◌, ◌≤◌, ◌^◌, true, arith, refl, sym, ap, subst, Option, None, Some, List, [], ◌∷◌, ◌++◌, length}
+use Rattle.std.proofs.Common.{◌≡◌, ◌∙◌, ℕ, zero, suc, ◌+◌, ◌*◌, ◌<◌, ◌≤◌, ◌^◌, true, arith, refl, sym, subst, Option, None, Some, List}
 use Rattle.std.specs.Prelude.{IsSome}
 use Rattle.std.proofs.lemmas.Nat.{mul-le}
 use Rattle.og_runs.specs.declared.Choice.{Choice}

@@ -1,5 +1,5 @@
 -- Draws while a hart isn't stopped, one after the other.
-use Rattle.std.proofs.Common.{◌≡◌, ◌∙◌, ℕ, ◌+◌, ◌<◌, ◌≤◌, true, false, arith, refl, sym, ap, subst, Option, None, Some, List, [], ◌∷◌, ◌++◌, length, slice_get}
+use Rattle.std.proofs.Common.{◌≡◌, ◌∙◌, ℕ, ◌+◌, ◌<◌, ◌≤◌, true, false, arith, refl, sym, ap, subst, None, Some, List, length, slice_get}
 use Rattle.rand_pcg.specs.Lcg.{Lcg}
 use Rattle.og_draws.specs.Draws.{start, after, draw}
 use Rattle.og_runs.specs.declared.Choice.{Choice}
@@ -8,7 +8,7 @@ use Rattle.og_runs.specs.World.{world_step}
 use Rattle.og_msg.specs.declared.Note.{Note}
 use Rattle.og_image.specs.Image.{ImageState}
 use Rattle.og_machine.specs.Machine.{Setup, Machine, rules, refusal_of, is_stopped}
-use Rattle.og_machine.specs.Choices.{enabled_of, drawn_choice, next_choice}
+use Rattle.og_machine.specs.Choices.{enabled_of, drawn_choice}
 use Rattle.og_engine.specs.Kept.{KeptMachine, machine_of, setup_in, IsMade}
 use Rattle.og_driver.proofs.Drawing.{same_setup}
 use Rattle.og_driver.proofs.Next.{draws, some_enabled, next_free}

@@ -1,6 +1,6 @@
 -- All parts of a run, and what holds of them once they are sorted.
-use Rattle.std.proofs.Common.{◌≡◌, ◌∙◌, ℕ, ◌+◌, ◌-◌, ◌≤◌, Bool, true, false, arith, refl, sym, ap, subst, List, [], ◌∷◌, ◌++◌, length, length-append, append_assoc, slice_get}
-use Rattle.std.specs.Prelude.{◌↔◌, if◌then◌else◌}
+use Rattle.std.proofs.Common.{◌≡◌, ◌∙◌, ℕ, ◌+◌, ◌-◌, ◌≤◌, Bool, true, false, arith, refl, sym, ap, subst, List, [], ◌++◌, length, length-append, slice_get}
+use Rattle.std.specs.Prelude.{if◌then◌else◌}
 use Rattle.std.proofs.lemmas.List.{append-nil}
 use Rattle.std.specs.List.Sorted.{IsPermutation}
 use Rattle.std.proofs.lemmas.List.Sorted.{length_permutation}
@@ -24,10 +24,10 @@ use Rattle.og_engine.specs.Kept.{KeptMachine, machine_of, setup_in}
 use Rattle.og_driver.proofs.Drawing.{same_setup}
 use Rattle.og_headline.specs.Headline.{IsPrinted}
 use Rattle.og_headline.proofs.Sorted.{printed}
-use Rattle.og_finish.specs.Finish.{IsThreadRun, drawn_after, drain_of_all, drained_after, finished, with_drain}
+use Rattle.og_finish.specs.Finish.{IsThreadRun, drawn_after, drain_of_all, drained_after, finished}
 use Rattle.og_finish.specs.Parts.{Adds, IsFinished}
 use Rattle.og_finish.proofs.One.{one_end}
-use Rattle.og_finish.proofs.Made.{Leads, made_leads, running_unquiet, IsFull, drawn_full}
+use Rattle.og_finish.proofs.Made.{Leads, made_leads, running_unquiet, drawn_full}
 
 -- ---- all parts
 

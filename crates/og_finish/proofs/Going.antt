@@ -1,5 +1,5 @@
 -- A part that is being made: what is made so far, and what is left.
-use Rattle.std.proofs.Common.{◌≡◌, ◌∙◌, ℕ, suc, ◌+◌, ◌-◌, ◌<◌, arith, refl, sym, ap, Option, None, Some, List, [], ◌∷◌, ◌++◌, append_assoc}
+use Rattle.std.proofs.Common.{◌≡◌, ◌∙◌, ℕ, suc, ◌+◌, ◌-◌, ◌<◌, arith, sym, ap, Option, None, Some, List, [], ◌∷◌, ◌++◌, append_assoc}
 use Rattle.std.proofs.lemmas.List.{append-nil}
 use Rattle.og_runs.specs.declared.Choice.{Choice}
 use Rattle.og_runs.specs.declared.Event.{Event}

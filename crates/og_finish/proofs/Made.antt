@@ -1,6 +1,6 @@
 -- The events that a part makes, one after another.
 use Rattle.std.proofs.Common.{◌≡◌, ◌∙◌, ℕ, zero, suc, ◌≤◌, Bool, true, false, arith, refl, sym, ap, subst, Option, None, Some, List, [], ◌∷◌, ◌++◌, length}
-use Rattle.std.specs.Prelude.{IsSome, if◌then◌else◌}
+use Rattle.std.specs.Prelude.{IsSome}
 use Rattle.og_runs.specs.declared.Choice.{Choice}
 use Rattle.og_runs.specs.declared.Event.{Event}
 use Rattle.og_runs.specs.World.{WorldRun, world_step}

@@ -1,6 +1,6 @@
 -- Events have one order by stamp: sorted lists of the same events are one list.
-use Rattle.std.proofs.Common.{◌≡◌, ◌∙◌, ◌<◌, ◌≤◌, Bool, true, false, cond, nat_eq, arith, inl, inr, refl, sym, ap, ap₂, List, [], ◌∷◌}
-use Rattle.std.specs.Prelude.{◌⊎◌, if◌then◌else◌}
+use Rattle.std.proofs.Common.{◌≡◌, ◌∙◌, Bool, true, false, cond, nat_eq, arith, inl, inr, refl, sym, ap, ap₂, List, [], ◌∷◌}
+use Rattle.std.specs.Prelude.{if◌then◌else◌}
 use Rattle.std.proofs.lemmas.Bool.Decides.{nat_tests}
 use Rattle.std.specs.List.{filter}
 use Rattle.og_runs.specs.declared.Event.{Event}

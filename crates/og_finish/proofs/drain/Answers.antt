@@ -1,6 +1,6 @@
-use Rattle.std.proofs.Common.{◌≡◌, ◌∙◌, ℕ, ◌+◌, ◌<◌, ◌≤◌, ◌^◌, arith, sym, subst}
-use Rattle.og_engine.specs.Kept.{machine_of, setup_in}
-use Rattle.og_finish.proofs.Draining.{draining_start, draining_free, draining_next, draining_none, draining_end, draining_quiet, draining_quiet_end}
+use Rattle.std.proofs.Common.{◌∙◌, arith, sym}
+use Rattle.og_engine.specs.Kept.{setup_in}
+use Rattle.og_finish.proofs.Draining.{draining_start, draining_free, draining_next, draining_none, draining_end, draining_quiet}
 use Rattle.og_finish.proofs.drain.Goals as goal
 
 pub loop-drained-init : goal.loop-drained-init

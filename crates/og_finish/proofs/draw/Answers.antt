@@ -1,6 +1,6 @@
-use Rattle.std.proofs.Common.{◌≡◌, ◌∙◌, ℕ, ◌+◌, ◌<◌, ◌≤◌, ◌^◌, arith, sym, subst}
+use Rattle.std.proofs.Common.{◌∙◌, ℕ, ◌≤◌, arith, sym, subst}
 use Rattle.og_engine.specs.Kept.{machine_of, setup_in}
-use Rattle.og_finish.proofs.Drawing.{drawing_start, running_enabled, drawn_named, drawn_free, drawing_next, drawing_stopped, drawing_end}
+use Rattle.og_finish.proofs.Drawing.{running_enabled, drawn_named, drawn_free, drawing_next, drawing_stopped, drawing_end}
 use Rattle.og_finish.proofs.draw.Goals as goal
 
 pub returns-then-stopped-clause-drawn : goal.returns-then-stopped-clause-drawn
