@@ -1,0 +1,5 @@
+pub mod Starts
+pub mod Met
+pub mod Moves
+pub mod Sorts
+pub mod Whole
