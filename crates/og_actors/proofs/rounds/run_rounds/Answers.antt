@@ -1,7 +1,7 @@
 use Rattle.std.proofs.Common.{rules, ◌≡◌, ◌*◌, ◌∙◌, arith, sym, subst, Some}
 use Rattle.og_actors.specs.Rounds.{all_seen, Standing, all_whole, all_stopped, made_by, idle_by}
 use Rattle.og_actors.proofs.Counting.{go_keep, go_more, all_tables, all_turns, all_begin, sums_fit, ended, stands, spent}
-use Rattle.og_actors.proofs.Seen.{length_seen, whole_seen, stopped_seen, made_seen, idle_seen, each_kept, round_seen, standing_seen, fits_seen, grown_seen}
+use Rattle.og_actors.proofs.Seen.{length_seen, whole_seen, stopped_seen, made_seen, idle_seen, each_kept, round_seen, standing_seen, fits_seen, grown_seen, ended_at_once, spent_at_once}
 use Rattle.og_actors.proofs.rounds.run_rounds.Goals as goal
 
 pub events_of-events-requires : goal.events_of-events-requires
@@ -9,6 +9,12 @@ events_of-events-requires g c = (sums_fit g.S.Scheme.most g.S.Scheme.actors c.ar
 
 pub idle_of-idle-requires : goal.idle_of-idle-requires
 idle_of-idle-requires g c = (sums_fit g.S.Scheme.most g.S.Scheme.actors c.args.actors.now (all_begin (c.args.rounds * c.args.turns) g.S.Scheme.most c.args.actors.now c.requires.turns) c.requires.actors c.requires.small).1
+
+pub returns-in-Some : goal.returns-in-Some
+returns-in-Some g c = record { rounds = ended_at_once g.S.Scheme.state g.S.Scheme.rules g.S.Scheme.stopped c.args.turns c.args.rounds c.args.actors.now c.in-Some.end (search rules) c.in-Some.ensures }
+
+pub returns-in-None : goal.returns-in-None
+returns-in-None g c = record { rounds = spent_at_once g.S.Scheme.state g.S.Scheme.rules g.S.Scheme.stopped c.args.turns c.args.rounds c.args.actors.now (search rules) c.in-None.ensures }
 
 pub run_round-requires-clause-fabric : goal.run_round-requires-clause-fabric
 run_round-requires-clause-fabric g c κs within = all_tables _ _ _ _ (each_kept g.S.Scheme.state _ _ _ (go_keep g.S.Scheme.rules g.S.Scheme.stopped _ _ _ _ c.loop.invariant.0)) c.requires.fabric

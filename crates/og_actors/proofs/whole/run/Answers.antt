@@ -1,9 +1,9 @@
-use Rattle.std.proofs.Common.{rules, ◌*◌, ◌∙◌, ap, sym, subst, length}
+use Rattle.std.proofs.Common.{rules, ◌*◌, ◌∙◌, ap, sym, subst, length, refl}
 use Rattle.og_runs.specs.Runs.{joined, IsSorted}
 use Rattle.og_runs.specs.World.{events_of}
 use Rattle.og_runs.specs.Views.{LocalViews}
 use Rattle.og_fabric.specs.Gathered.{views_of}
-use Rattle.og_actors.specs.Rounds.{all_seen, all_whole}
+use Rattle.og_actors.specs.Rounds.{all_seen, all_whole, made_by}
 use Rattle.og_actors.proofs.Merged.{kept, is_whole, counted, leads_local, are_logs, whole_run, length_closed}
 use Rattle.og_actors.proofs.Seen.{length_seen, whole_seen, made_seen, closed_seen, tables_at, turns_at, back}
 use Rattle.og_actors.proofs.whole.run.Goals as goal
@@ -46,6 +46,7 @@ returns g c =
       merged = merged;
       run = whole_run g.S.Scheme.rules g.S.Scheme.start g.S.Scheme.stopped c.args.turns c.args.rounds g.S.Scheme.actors c.run_rounds-ended.result _ (all_seen g.S.Scheme.state c.run_rounds-ended.new.actors) _ c.in_ok-posted.posted.items c.in_ok-logs.field-0.logs.items _ c.in_ok-logs.field-0.left.items
           c.in_ok-posted.ensures.local closed same (length_seen g.S.Scheme.state _ ∙ b.size) (search rules) c.run_rounds-ended.ensures.rounds c.in_ok-logs.ensures.consistent c.in_ok-logs.ensures.left c.in_ok-logs.ensures.logs merged;
-      counted = counted g.S.Scheme.rules g.S.Scheme.stopped c.args.turns c.args.rounds g.S.Scheme.actors _ c.in_ok-fabric.fabric g.S.Scheme.start c.run_rounds-ended.result (all_seen g.S.Scheme.state c.as_mut_slice.result.now) (all_seen g.S.Scheme.state c.in_ok-actors.actors.items) (all_seen g.S.Scheme.state c.run_rounds-ended.new.actors) _
-          (ap (λ ps. all_seen g.S.Scheme.state ps) c.as_mut_slice.ensures.value) c.in_ok-actors.ensures.seated (length_seen g.S.Scheme.state _ ∙ c.in_ok-actors.ensures.all) (search rules) c.run_rounds-ended.ensures.rounds same (ap (λ ls. length (joined ls)) c.in_ok-logs.ensures.logs ∙ (c.in_ok-posted.ensures.events ∙ sym (made_seen g.S.Scheme.state _)));
+      counted = counted g.S.Scheme.rules g.S.Scheme.stopped c.args.turns c.args.rounds g.S.Scheme.actors _ c.in_ok-fabric.fabric g.S.Scheme.start c.run_rounds-ended.result (all_seen g.S.Scheme.state c.as_mut_slice.result.now) (all_seen g.S.Scheme.state c.in_ok-actors.actors.items) (all_seen g.S.Scheme.state c.run_rounds-ended.new.actors) (all_seen g.S.Scheme.state c.run_rounds-ended.new.actors)
+          (ap (λ ps. all_seen g.S.Scheme.state ps) c.as_mut_slice.ensures.value) c.in_ok-actors.ensures.seated (length_seen g.S.Scheme.state _ ∙ c.in_ok-actors.ensures.all) (search rules) c.run_rounds-ended.ensures.rounds refl
+          (ap (λ ls. length (joined ls)) c.in_ok-logs.ensures.logs ∙ (c.in_ok-posted.ensures.events ∙ (ap (λ ps. made_by ps) b.same ∙ sym (made_seen g.S.Scheme.state c.run_rounds-ended.new.actors))));
     }
