@@ -85,20 +85,23 @@ unfolding act_of
 acts_where setup x e = e
 
 -- where an act has an outcome, its call may be made
-pub may_act_here : (setup : Setup) (most a : ℕ) (image : ImageState) (p : Player) → Plays setup most image → Meets setup most a (actor_of p) None → is_there (act_of setup (actor_of p)) ≡ true → MayAct image p
+may_act_here : (setup : Setup) (most a : ℕ) (image : ImageState) (p : Player) → Plays setup most image → Meets setup most a (actor_of p) None → is_there (act_of setup (actor_of p)) ≡ true → MayAct image p
 may_act_here setup most a image (Node x) plays k can = (
   subst (λ (i : ImageState). may_act i x.processor ≡ Ok tt) plays.program (enabled (can_act setup (actor_of (Node x))) (acting setup (actor_of (Node x))) (acts_where setup (actor_of (Node x)) can)),
   (lines_are_low setup k.choices k.world k.events (met_run setup most a (actor_of (Node x)) None k) (few_choices setup most a image (actor_of (Node x)) None k plays)).processors a k.seat (node_of x) k.there k.state,
 )
 may_act_here setup most a image (Mover m) plays k can = mover_enabled (has_act m.job) (acting setup (actor_of (Mover m))) (acts_where setup (actor_of (Mover m)) can)
 
+pub may_act_as : (setup : Setup) (most a : ℕ) (image : ImageState) (p q : Player) → p ≡ q → Plays setup most image → Meets setup most a (actor_of q) None → is_there (act_of setup (actor_of q)) ≡ true → MayAct image p
+may_act_as setup most a image p q e plays k can = subst (λ (z : Player). MayAct image z) (sym e) (may_act_here setup most a image q plays k can)
+
 act_is : (setup : Setup) (x : ActorState) → is_there (act_of setup x) ≡ true → act_of setup x ≡ Some (acting setup x)
 unfolding act_of
 act_is setup x can = ap (λ (may : Result (Unit {0}) NotEnabled). where_enabled may (acting setup x)) (enabled (can_act setup x) (acting setup x) can)
 
 -- and gives that outcome
-pub acts_as : (setup : Setup) (x y : ActorState) (letters : List (Letter Kind)) (note : Option Note) → is_there (act_of setup x) ≡ true → acting setup x ≡ outcome y letters note → act_of setup x ≡ moved y letters note
-acts_as setup x y letters note can made = act_is setup x can ∙ ap (λ (o : Outcome ActorState Kind Note). Some o) made
+pub acts_as : (setup : Setup) (x y : ActorState) (letters : List (Letter Kind)) (said : Option Note) → is_there (act_of setup x) ≡ true → acting setup x ≡ outcome y letters said → act_of setup x ≡ moved y letters said
+acts_as setup x y letters said can made = act_is setup x can ∙ ap (λ (o : Outcome ActorState Kind Note). Some o) made
 
 -- ------------------------------------------------------------ takes
 
@@ -111,7 +114,7 @@ unfolding take_of
 row_there setup x m can = rowed (has_row x m) (taking setup x m) can
 
 -- where the take of a message that flies to it has an outcome, its call may be made
-pub may_take_here : (setup : Setup) (most a : ℕ) (image : ImageState) (p : Player) (m : Msg Kind) → Plays setup most image → Meets setup most a (actor_of p) (Some m) → is_there (take_of setup (actor_of p) m) ≡ true → MayTake image p m
+may_take_here : (setup : Setup) (most a : ℕ) (image : ImageState) (p : Player) (m : Msg Kind) → Plays setup most image → Meets setup most a (actor_of p) (Some m) → is_there (take_of setup (actor_of p) m) ≡ true → MayTake image p m
 may_take_here setup most a image (Node x) m plays k can =
     let run : RunsTo setup k.choices k.world k.events = met_run setup most a (actor_of (Node x)) (Some m) k in
     let low = lines_are_low setup k.choices k.world k.events run (few_choices setup most a image (actor_of (Node x)) (Some m) k plays) in
@@ -124,6 +127,9 @@ may_take_here setup most a image (Node x) m plays k can =
     }
 may_take_here setup most a image (Mover x) m plays k can = row_there setup (actor_of (Mover x)) m can
 
+pub may_take_as : (setup : Setup) (most a : ℕ) (image : ImageState) (p q : Player) (m : Msg Kind) → p ≡ q → Plays setup most image → Meets setup most a (actor_of q) (Some m) → is_there (take_of setup (actor_of q) m) ≡ true → MayTake image p m
+may_take_as setup most a image p q m e plays k can = subst (λ (z : Player). MayTake image z m) (sym e) (may_take_here setup most a image q m plays k can)
+
 -- and gives that outcome
-pub takes_as : (setup : Setup) (x y : ActorState) (m : Msg Kind) (letters : List (Letter Kind)) (note : Option Note) → is_there (take_of setup x m) ≡ true → taking setup x m ≡ outcome y letters note → take_of setup x m ≡ moved y letters note
-takes_as setup x y m letters note can made = takes_row setup x m (row_there setup x m can) ∙ ap (λ (o : Outcome ActorState Kind Note). Some o) made
+pub takes_as : (setup : Setup) (x y : ActorState) (m : Msg Kind) (letters : List (Letter Kind)) (said : Option Note) → is_there (take_of setup x m) ≡ true → taking setup x m ≡ outcome y letters said → take_of setup x m ≡ moved y letters said
+takes_as setup x y m letters said can made = takes_row setup x m (row_there setup x m can) ∙ ap (λ (o : Outcome ActorState Kind Note). Some o) made

@@ -40,9 +40,9 @@ one_fewer {N} x f zs (y ∷ es) e = at (same_stamp x y) e (λ k. one_fewer x f z
 -- those with another event's stamp, without it
 dropped : {N : Type 0} → (x y : Event N) (es : List (Event N)) → filter (same_stamp x) (drop_one y es) ≡ cond (same_stamp x y) (rest (filter (same_stamp x) es)) (filter (same_stamp x) es)
 unfolding drop_one rest
-dropped x y [] = at (same_stamp x y)
+dropped {N} x y [] = at (same_stamp x y)
   where
-    at : (w : Bool) → [] ≡ cond w [] []
+    at : (w : Bool) → ◌≡◌ {A = List (Event N)} [] (cond w [] [])
     at true = refl
     at false = refl
 dropped {N} x y (e ∷ es) = at (same_stamp y e) refl (same_stamp x e) refl (same_stamp x y) refl (dropped x y es)

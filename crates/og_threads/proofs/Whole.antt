@@ -1,6 +1,6 @@
 -- From what actors of any protocol give to a run of the machine.
 use Rattle.std.proofs.Common.{◌≡◌, ◌∙◌, ℕ, zero, suc, ◌+◌, ◌*◌, ◌<◌, ◌≤◌, ◌^◌, Bool, true, false, arith, refl, sym, ap, subst, List, length}
-use Rattle.std.specs.Prelude.{slice_get}
+use Rattle.std.specs.Prelude.{Result, Ok, Err, IfOk}
 use Rattle.std.specs.List.{list_all}
 use Rattle.og_base.specs.declared.Settings.{Settings}
 use Rattle.og_runs.specs.declared.Event.{Event}
@@ -14,6 +14,8 @@ use Rattle.og_msg.specs.declared.Note.{Note}
 use Rattle.og_elf.specs.Segment.{IsLoadable}
 use Rattle.og_image.specs.Image.{ImageState}
 use Rattle.og_image.specs.Layout.{LayoutState, layout_of, pages_of}
+use Rattle.og_pager.specs.PageTable.{Suits}
+use Rattle.og_pager.specs.Laws.{LayoutSuits}
 use Rattle.og_machine.specs.Machine.{Setup, setup_of, ActorState, Machine, rules, start_machine, has_stopped, is_stopped}
 use Rattle.og_refine.specs.Machines.{IsRunnable}
 use Rattle.og_actors.specs.declared.rounds.Rounds.{Rounds}
@@ -80,3 +82,20 @@ setup_is image layout settings e = ap (λ (l : LayoutState). record { image = im
 -- fewer turns than that are made by each
 pub most_few : (turns actors : ℕ) → (actors + 1) * turns ≤ 4000000 → turns < 2 ^ 40
 most_few turns actors h = let e : (actors + 1) * turns ≡ actors * turns + turns = grind arith in omega (arith, e, h)
+
+pub suits_here : (image : ImageState) (layout : LayoutState) (settings : Settings) → LayoutSuits → IsRunnable (record { image = image; layout = layout; settings = settings }) → Suits layout settings.nodes settings.frames
+suits_here image layout settings law ok =
+    let pages : length (pages_of image) ≤ settings.nodes * settings.frames = subst (λ (l : LayoutState). length l.pages ≤ settings.nodes * settings.frames) ok.layout ok.room in
+    subst (λ (n : ℕ). Suits layout n settings.frames) ok.nodes
+    (subst (λ (l : LayoutState). Suits l image.nodes settings.frames) (sym ok.layout)
+    (law.suits image settings.frames (subst (λ (n : ℕ). length (pages_of image) ≤ n * settings.frames) (sym ok.nodes) pages)))
+
+-- ------------------------------------------------------------ where there was memory
+
+pub if_ok : {T E : Type 0} {P Q : T → Type 0} → (r : Result T E) → ((x : T) → P x → Q x) → IfOk r P → IfOk r Q
+if_ok (Ok x) f h = f x h
+if_ok (Err e) f h = tt
+
+pub if_both : {T E : Type 0} {P Q S : T → Type 0} → (r : Result T E) → ((x : T) → P x → Q x → S x) → IfOk r P → IfOk r Q → IfOk r S
+if_both (Ok x) f h k = f x h k
+if_both (Err e) f h k = tt

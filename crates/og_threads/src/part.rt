@@ -128,5 +128,6 @@ fn make_player(
     if number < settings.nodes {
         return Ok(Player::Node(Node::make(alloc, number, image, layout, settings)?));
     }
+    og_pager::laws::layout_suits();
     Ok(Player::Mover(Mover::make(alloc, layout, settings)?))
 }
