@@ -133,12 +133,3 @@ ended r stopped turns rounds n ps us qs Memory go lt round s = (inr (n, us, lt, 
 pub stands : (whole stopped : Bool) (o : Option Rounds) → Standing whole stopped o → o ≡ None → (whole ≡ true) × (stopped ≡ false)
 stands whole stopped None s e = s
 stands whole stopped (Some end) s e = absurd (cc)
-
-pub fits_at : {A K N : Type 0} → (r : Rules A K N) (stopped : A → Bool) (n rounds turns most actors : ℕ) (ps qs : List (Playing A K N)) → GoOn r stopped turns n ps qs → n ≡ rounds → All (λ p. p.made + p.idle + rounds * turns ≤ most) ps → length ps ≤ actors → actors * most < 2 ^ 60 → (made_by qs < 2 ^ 64) × (idle_by qs < 2 ^ 64)
-fits_at {A} {K} {N} r stopped n rounds turns most actors ps qs go same within len small =
-    let k : EachKeeps (n * turns) ps qs = go_keep r stopped turns n ps qs go in
-    let k' : EachKeeps (rounds * turns) ps qs = subst (λ (m : ℕ). EachKeeps (m * turns) ps qs) same k in
-    sums_fit most actors qs (all_within rounds turns most ps qs k' within) (let l = k.0 in omega (arith, l, len)) small
-
-pub grown : {A K N : Type 0} → (r : Rules A K N) (stopped : A → Bool) (turns n : ℕ) (ps qs : List (Playing A K N)) → GoOn r stopped turns n ps qs → (made_by ps ≤ made_by qs) × (idle_by ps ≤ idle_by qs)
-grown r stopped turns n ps qs go = let s = sums (n * turns) ps qs (go_keep r stopped turns n ps qs go) in (s.made, s.idle)

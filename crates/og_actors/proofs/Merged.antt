@@ -27,12 +27,12 @@ use Rattle.og_actors.specs.Actors.{Playing, closed_of}
 use Rattle.og_actors.specs.Rounds.{AreSeated, AreInTurn, AfterRounds, IsReached, Counted, LeadAll, AreLogs, AsEnded, IsWholeRun, all_whole, all_stopped, made_by, idle_by}
 use Rattle.og_actors.proofs.Counting.{EachKeeps, go_keep, round_keeps, sums}
 
-seated_tables : {A K N : Type 0} → (t : TableId) (f : ℕ → A) (k : ℕ) (ps : List (Playing A K N)) → AreSeated t f k ps → All (λ p. p.table ≡ t) ps
+pub seated_tables : {A K N : Type 0} → (t : TableId) (f : ℕ → A) (k : ℕ) (ps : List (Playing A K N)) → AreSeated t f k ps → All (λ p. p.table ≡ t) ps
 seated_tables t f k [] h i d lt = absurd (omega (arith, lt))
 seated_tables {A} {K} {N} t f k (p ∷ ps) h zero d lt = ap (λ (q : Playing A K N). q.table) h.0
 seated_tables t f k (p ∷ ps) h (suc i) d lt = seated_tables t f (suc k) ps h.1 i d (omega (arith, lt))
 
-seated_turns : {A K N : Type 0} → (n most : ℕ) (t : TableId) (f : ℕ → A) (k : ℕ) (ps : List (Playing A K N)) → n ≤ most → AreSeated t f k ps → All (λ p. p.made + p.idle + n ≤ most) ps
+pub seated_turns : {A K N : Type 0} → (n most : ℕ) (t : TableId) (f : ℕ → A) (k : ℕ) (ps : List (Playing A K N)) → n ≤ most → AreSeated t f k ps → All (λ p. p.made + p.idle + n ≤ most) ps
 seated_turns n most t f k [] le h i d lt = absurd (omega (arith, lt))
 seated_turns {A} {K} {N} n most t f k (p ∷ ps) le h zero d lt = let e : p.made ≡ 0 = ap (λ (q : Playing A K N). q.made) h.0 in let e' : p.idle ≡ 0 = ap (λ (q : Playing A K N). q.idle) h.0 in omega (arith, e, e', le)
 seated_turns n most t f k (p ∷ ps) le h (suc i) d lt = seated_turns n most t f (suc k) ps le h.1 i d (omega (arith, lt))
@@ -50,7 +50,7 @@ seated_sums {A} {K} {N} t f k (p ∷ ps) h =
     (omega (arith, a, e, m), omega (arith, b, e', i))
 
 -- the rounds leave each actor at its place
-still_in_turn : {A K N : Type 0} → (n : ℕ) (t : TableId) (f : ℕ → A) (k : ℕ) (os ps : List (Playing A K N)) → AreSeated t f k os → EachKeeps n os ps → AreInTurn t k ps
+pub still_in_turn : {A K N : Type 0} → (n : ℕ) (t : TableId) (f : ℕ → A) (k : ℕ) (os ps : List (Playing A K N)) → AreSeated t f k os → EachKeeps n os ps → AreInTurn t k ps
 still_in_turn n t f k [] [] h e = tt
 still_in_turn n t f k [] (p ∷ ps) h e = absurd (let l = e.0 in omega (arith, l))
 still_in_turn n t f k (o ∷ os) [] h e = absurd (let l = e.0 in omega (arith, l))
@@ -117,22 +117,6 @@ pub record AreBack {A K N : Type 0} (t : TableId) (actors : ℕ) (qs zs : List (
   pub same : zs ≡ qs
   pub turn : AreInTurn t 0 zs
   pub size : length zs ≡ actors
-
-pub back : {A K N : Type 0} → (t : TableId) (f : ℕ → A) (most actors len : ℕ) (os items new : List (Playing A K N)) → os ≡ items → AreSeated t f 0 items → len ≡ length items → length items ≡ actors → Kept most os new → AreBack t actors new (take len (new ++ drop (length new) items))
-back {A} {K} {N} t f most actors len os items new same h e size k =
-    let each : EachKeeps k.turns items new = subst (λ (l : List (Playing A K N)). EachKeeps k.turns l new) same k.each in
-    let v : take len (new ++ drop (length new) items) ≡ new = vec_back len new items each.0 e in
-    record {
-      same = v;
-      turn = subst (λ (l : List (Playing A K N)). AreInTurn t 0 l) (sym v) (still_in_turn k.turns t f 0 items new h each);
-      size = ap (λ (l : List (Playing A K N)). length l) v ∙ (each.0 ∙ size);
-    }
-
-pub tables_at : {A K N : Type 0} → (t : TableId) (f : ℕ → A) (os items : List (Playing A K N)) → os ≡ items → AreSeated t f 0 items → All (λ p. p.table ≡ t) os
-tables_at {A} {K} {N} t f os items e h = subst (λ (l : List (Playing A K N)). All (λ p. p.table ≡ t) l) (sym e) (seated_tables t f 0 items h)
-
-pub turns_at : {A K N : Type 0} → (n most : ℕ) (t : TableId) (f : ℕ → A) (os items : List (Playing A K N)) → n ≤ most → os ≡ items → AreSeated t f 0 items → All (λ p. p.made + p.idle + n ≤ most) os
-turns_at {A} {K} {N} n most t f os items le e h = subst (λ (l : List (Playing A K N)). All (λ p. p.made + p.idle + n ≤ most) l) (sym e) (seated_turns n most t f 0 items le h)
 
 -- the events that were made are those that were counted
 pub counted : {A K N : Type 0} → (r : Rules A K N) (stopped : A → Bool) (turns rounds actors total : ℕ) (t : TableId) (f : ℕ → A) (end : Rounds) (os items qs zs : List (Playing A K N)) → os ≡ items → AreSeated t f 0 items → length items ≡ actors → end ≢ Memory → AfterRounds r stopped turns rounds end os qs → zs ≡ qs → total ≡ made_by zs → Counted (rounds * turns * actors) end total

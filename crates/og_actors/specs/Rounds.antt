@@ -1,5 +1,5 @@
 -- Rounds of turns, from the seats to a run of all actors.
-use Rattle.std.specs.Prelude.{◌≡◌, ℕ, zero, suc, ◌+◌, ◌*◌, ◌<◌, ◌≤◌, Bool, true, false, ◌⊎◌, List, [], ◌∷◌, length, slice_index_or, sum_by}
+use Rattle.std.specs.Prelude.{◌≡◌, ℕ, zero, suc, ◌+◌, ◌*◌, ◌<◌, ◌≤◌, Bool, true, false, ◌⊎◌, List, [], ◌∷◌, length, slice_index_or, sum_by, map}
 use Rattle.std.specs.List.{list_all}
 use Rattle.std.proofs.Common.{Option, None, Some}
 use Rattle.atomic_table.specs.Seated.{TableId}
@@ -15,11 +15,18 @@ use Rattle.og_runs.specs.Views.{View, LocalViews, ConsistentViews, logs_of}
 use Rattle.og_fabric.specs.Gathered.{AreLeft}
 use Rattle.og_actors.specs.declared.rounds.Rounds.{Rounds}
 use Rattle.og_actors.specs.declared.rounds.Rounds.TheVariants.{Stopped, Spent, Memory}
-use Rattle.og_actors.specs.Actors.{Playing, newcomer, MakesTurns}
+use Rattle.og_actors.specs.Actors.{Playing, seen, newcomer, MakesTurns}
 
 -- a round: each actor makes so many turns
 abbrev pub EachTurns : {A K N : Type 0} → Rules A K N → ℕ → List (Playing A K N) → List (Playing A K N) → Type 0
 EachTurns {A} {K} {N} r turns ps qs = (i : ℕ) (d : Playing A K N) → i < length ps → MakesTurns r turns (slice_index_or ps i d) (slice_index_or qs i d)
+
+-- the same, of actors by what is kept of them
+abbrev pub EachTurnsBy : {B A K N : Type 0} → (B → A) → Rules A K N → ℕ → List (Playing B K N) → List (Playing B K N) → Type 0
+EachTurnsBy {B} {A} {K} {N} state r turns ps qs = (i : ℕ) (d : Playing B K N) → i < length ps → MakesTurns r turns (seen state (slice_index_or ps i d)) (seen state (slice_index_or qs i d))
+
+abbrev pub all_seen : {B A K N : Type 0} → (B → A) → List (Playing B K N) → List (Playing A K N)
+all_seen state ps = map (λ p. seen state p) ps
 
 abbrev pub IsRound : {A K N : Type 0} → Rules A K N → ℕ → List (Playing A K N) → List (Playing A K N) → Type 0
 IsRound r turns ps qs = (length qs ≡ length ps) × EachTurns r turns ps qs

@@ -2,8 +2,9 @@
 
 ghost use Rattle.std.specs.Prelude.{◌≡◌, ℕ, ◌+◌, ◌*◌, ◌<◌, ◌≤◌, ◌^◌, ◌∷◌, ◌++◌, [], length, None, max, true, false};
 ghost use Rattle.og_runs.specs.Runs.{posted};
+ghost use Rattle.og_fabric.specs.Scheme.{IsMet};
 ghost use Rattle.og_fabric.specs.Sides.{Fits, blank};
-ghost use Rattle.og_actors.specs.Actors.{is_there, Playing, newcomer, closed_of, LeadsHere, IsActor, AfterTurn, AfterPart, MakesTurns, after_sending};
+ghost use Rattle.og_actors.specs.Actors.{is_there, Playing, seen, newcomer, closed_of, LeadsHere, IsActor, AfterTurn, AfterPart, MakesTurns, after_sending};
 
 use crate::{Gate, Part, Turn};
 use og_fabric::{Fabric, Posted, Scheme, Seat, Taken};
@@ -29,9 +30,9 @@ pub struct Actor<A, K: Drop, N, S: Scheme<A, K, N>, P: Part<A, K, N, S>> {
 impl<A, K: Drop, N, S: Scheme<A, K, N>, P: Part<A, K, N, S>> Model for Actor<A, K, N, S, P> {
     ghost Value = { Playing A K N };
 
-    ghost view = { λ s. record { table = s.seat.table; actor = s.number; past = record { local = P.state s.part; clock = s.clock; sent = s.seat.side.sent; taken = s.seat.side.taken }; log = s.log.events.items; whole = s.whole; made = s.made; idle = s.idle } };
+    ghost view = { λ s. record { table = s.seat.table; actor = s.number; past = record { local = P.kept s.part; clock = s.clock; sent = s.seat.side.sent; taken = s.seat.side.taken }; log = s.log.events.items; whole = s.whole; made = s.made; idle = s.idle } };
 
-    ghost invariant = { λ s. IsActor S.rules S.start S.actors S.most (P.state s.part) s.seat.side s.log.events.items s.whole s.clock s.number s.made };
+    ghost invariant = { λ s. IsActor S.rules S.start S.actors S.most (S.state (P.kept s.part)) s.seat.side s.log.events.items s.whole s.clock s.number s.made };
 }
 
 impl<A, K: Copy + Drop, N: Drop, S: Scheme<A, K, N>, P: Part<A, K, N, S>> Actor<A, K, N, S, P> {
@@ -39,8 +40,8 @@ impl<A, K: Copy + Drop, N: Drop, S: Scheme<A, K, N>, P: Part<A, K, N, S>> Actor<
     pub fn make(alloc: Global, part: P, seat: Seat<K>, number: u8) -> Actor<A, K, N, S, P>
         requires seat { seat.side ≡ blank number }
         requires number { number < S.actors }
-        requires part { P.state part ≡ S.start number }
-        ensures { result ≡ newcomer seat.table number (S.start number) }
+        requires part { S.state (P.kept part) ≡ S.start number }
+        ensures { seen S.state result ≡ newcomer seat.table number (S.start number) }
     {
         Actor {
             part,
@@ -64,7 +65,7 @@ impl<A, K: Copy + Drop, N: Drop, S: Scheme<A, K, N>, P: Part<A, K, N, S>> Actor<
         requires turns { self.old.made + self.old.idle < S.most }
         requires few { S.most < 2 ^ 40 }
         requires small { S.actors * S.most < 2 ^ 60 }
-        ensures { AfterTurn S.rules self.old result self.new }
+        ensures { AfterTurn S.rules (seen S.state self.old) result (seen S.state self.new) }
     {
         if self.pull(rt, fabric) {
             return Turn::Event;
@@ -89,7 +90,7 @@ impl<A, K: Copy + Drop, N: Drop, S: Scheme<A, K, N>, P: Part<A, K, N, S>> Actor<
         requires turns { self.old.made + self.old.idle + turns ≤ S.most }
         requires few { S.most < 2 ^ 40 }
         requires small { S.actors * S.most < 2 ^ 60 }
-        ensures { MakesTurns S.rules turns self.old self.new }
+        ensures { MakesTurns S.rules turns (seen S.state self.old) (seen S.state self.new) }
     {
         for _ in 0..turns {
             gate.turn(self.number, self.made + self.idle);
@@ -103,7 +104,8 @@ impl<A, K: Copy + Drop, N: Drop, S: Scheme<A, K, N>, P: Part<A, K, N, S>> Actor<
         requires made { self.old.made < S.most }
         requires few { S.most < 2 ^ 40 }
         requires small { S.actors * S.most < 2 ^ 60 }
-        ensures { AfterPart S.rules self.old result self.new }
+        ensures part { AfterPart S.rules (seen S.state self.old) result (seen S.state self.new) }
+        ensures met { result ≡ false → IsMet S.rules S.start S.actors S.most self.new.actor (S.state self.new.past.local) None }
     {
         match fabric.take(rt, &mut self.seat) {
             Taken::Mine(message) => {
@@ -140,8 +142,9 @@ impl<A, K: Copy + Drop, N: Drop, S: Scheme<A, K, N>, P: Part<A, K, N, S>> Actor<
         requires made { self.old.made < S.most }
         requires few { S.most < 2 ^ 40 }
         requires small { S.actors * S.most < 2 ^ 60 }
-        requires possible { is_there (S.rules.act self.old.actor self.old.past.local) ≡ true }
-        ensures { AfterPart S.rules self.old true self.new }
+        requires possible { is_there (S.rules.act self.old.actor (S.state self.old.past.local)) ≡ true }
+        requires met { IsMet S.rules S.start S.actors S.most self.old.actor (S.state self.old.past.local) None }
+        ensures { AfterPart S.rules (seen S.state self.old) true (seen S.state self.new) }
     {
         let note = self.part.act(self.number);
         let clock = self.clock + 1;
@@ -171,7 +174,7 @@ impl<A, K: Copy + Drop, N: Drop, S: Scheme<A, K, N>, P: Part<A, K, N, S>> Actor<
 
     /// Whether the actor is done.
     pub fn is_stopped(&self) -> bool
-        ensures { result ≡ P.stopped self.now.past.local }
+        ensures { result ≡ S.stopped (S.state self.now.past.local) }
     {
         self.part.is_stopped()
     }
@@ -195,7 +198,7 @@ impl<A, K: Copy + Drop, N: Drop, S: Scheme<A, K, N>, P: Part<A, K, N, S>> Actor<
         requires whole { self.whole ≡ true }
         ensures posted { result ≡ closed_of self }
         ensures count { length self.log ≡ self.made }
-        ensures local { LeadsHere S.rules (S.start self.actor) self }
+        ensures local { LeadsHere S.rules (S.start self.actor) (seen S.state self) }
     {
         let Actor {
             part: _,

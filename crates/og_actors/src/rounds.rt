@@ -1,8 +1,8 @@
 //! Rounds of turns: in each, every actor makes so many turns, in as many threads as there are actors.
 
 ghost use Rattle.std.specs.Prelude.{◌≡◌, ℕ, ◌+◌, ◌*◌, ◌<◌, ◌≤◌, ◌^◌, length, All};
-ghost use Rattle.og_actors.specs.Actors.{MakesTurns};
-ghost use Rattle.og_actors.specs.Rounds.{EachTurns, Standing, AfterRounds, all_whole, all_stopped, made_by, idle_by};
+ghost use Rattle.og_actors.specs.Actors.{MakesTurns, seen};
+ghost use Rattle.og_actors.specs.Rounds.{EachTurnsBy, all_seen, Standing, AfterRounds, all_whole, all_stopped, made_by, idle_by};
 
 use crate::actor::Actor;
 use crate::{Gate, Part};
@@ -46,7 +46,7 @@ pub fn run_rounds<
     requires actors { length actors.old ≤ S.actors }
     requires few { S.most < 2 ^ 40 }
     requires small { S.actors * S.most < 2 ^ 60 }
-    ensures rounds { AfterRounds S.rules P.stopped turns rounds result actors.old actors.new }
+    ensures rounds { AfterRounds S.rules S.stopped turns rounds result (all_seen S.state actors.old) (all_seen S.state actors.new) }
 {
     if rounds == 0 {
         return match standing(actors) {
@@ -83,7 +83,7 @@ fn run_round<
     requires few { S.most < 2 ^ 40 }
     requires small { S.actors * S.most < 2 ^ 60 }
     ensures len { length actors.new ≡ length actors.old }
-    ensures each { EachTurns S.rules turns actors.old actors.new }
+    ensures each { EachTurnsBy S.state S.rules turns actors.old actors.new }
 {
     thread::for_each_mut(
         rt,
@@ -91,7 +91,7 @@ fn run_round<
         MOST_THREADS,
         &|_: usize, actor: &mut Actor<A, K, N, S, P>|
             requires { (actor.old.table ≡ fabric.now) × (actor.old.made + actor.old.idle + turns ≤ S.most) × (S.most < 2 ^ 40) × (S.actors * S.most < 2 ^ 60) }
-            ensures { MakesTurns S.rules turns actor.old actor.new }
+            ensures { MakesTurns S.rules turns (seen S.state actor.old) (seen S.state actor.new) }
         { actor.turns(rt, fabric, gate, turns) },
     );
 }
@@ -100,7 +100,7 @@ fn run_round<
 fn standing<A, K: Copy + Drop, N: Drop, S: Scheme<A, K, N>, P: Part<A, K, N, S>>(
     actors: &[Actor<A, K, N, S, P>],
 ) -> Option<Rounds>
-    ensures { Standing (all_whole actors.now) (all_stopped P.stopped actors.now) result }
+    ensures { Standing (all_whole actors.now) (all_stopped (λ x. S.stopped (S.state x)) actors.now) result }
 {
     if !are_whole(actors) {
         Some(Rounds::Memory)
@@ -124,7 +124,7 @@ fn are_whole<A, K: Copy + Drop, N: Drop, S: Scheme<A, K, N>, P: Part<A, K, N, S>
 fn are_stopped<A, K: Copy + Drop, N: Drop, S: Scheme<A, K, N>, P: Part<A, K, N, S>>(
     actors: &[Actor<A, K, N, S, P>],
 ) -> bool
-    ensures { result ≡ all_stopped P.stopped actors.now }
+    ensures { result ≡ all_stopped (λ x. S.stopped (S.state x)) actors.now }
 {
     actors.iter().all(|actor| actor.is_stopped())
 }

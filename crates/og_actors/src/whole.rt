@@ -9,7 +9,7 @@ ghost use Rattle.og_fabric.specs.Gathered.{InTurn, views_of};
 ghost use Rattle.og_fabric.specs.Scheme.{HasRoom, IsReady};
 ghost use Rattle.og_fabric.specs.Shown.{AreNew};
 ghost use Rattle.og_actors.specs.Actors.{closed_of};
-ghost use Rattle.og_actors.specs.Rounds.{AreSeated, AreInTurn, all_whole, made_by, AreLogs, LeadAll, IsWholeRun, Counted};
+ghost use Rattle.og_actors.specs.Rounds.{all_seen, AreSeated, AreInTurn, all_whole, made_by, AreLogs, LeadAll, IsWholeRun, Counted};
 
 use crate::actor::Actor;
 use crate::rounds::{Rounds, run_rounds};
@@ -47,14 +47,14 @@ pub fn make_all<
     requires new { AreNew fabric.now 0 seats.items }
     requires all { length seats.items ≡ S.actors }
     requires few { S.actors ≤ 255 }
-    ensures seated { IfOk result (λ actors. AreSeated fabric.now S.start 0 actors.items) }
+    ensures seated { IfOk result (λ actors. AreSeated fabric.now S.start 0 (all_seen S.state actors.items)) }
     ensures all { IfOk result (λ actors. length actors.items ≡ S.actors) }
 {
     let mut actors = Vec::new(alloc);
     let mut number = 0;
     for seat in seats {
-        let actor = Actor::make(alloc, cast.part(number), seat, number);
-        actors.push(actor)?;
+        let part = cast.part(alloc, number)?;
+        actors.push(Actor::make(alloc, part, seat, number))?;
         number += 1;
     }
     Ok(actors)
@@ -69,7 +69,7 @@ pub fn post_all<A, K: Copy + Drop, N: Drop, S: Scheme<A, K, N>, P: Part<A, K, N,
     requires turn { AreInTurn fabric.now 0 actors.items }
     requires whole { all_whole actors.items ≡ true }
     ensures turn { IfOk result (λ posted. InTurn fabric.now 0 posted.items) }
-    ensures local { IfOk result (λ posted. LeadAll S.rules S.start 0 actors.items) }
+    ensures local { IfOk result (λ posted. LeadAll S.rules S.start 0 (all_seen S.state actors.items)) }
     ensures logs { IfOk result (λ posted. posted.items ≡ map closed_of actors.items) }
     ensures events { IfOk result (λ posted. length (joined (logs_of (views_of posted.items))) ≡ made_by actors.items) }
 {
@@ -109,7 +109,7 @@ pub fn run<
     requires ready { IsReady S.rules S.start S.actors S.most }
     ensures logs { IfOk result (λ r. AreLogs S.rules S.start S.actors r.logs.items r.left.items) }
     ensures merged { IfOk result (λ r. IsSorted (joined (events_of r.logs.items)) r.events.items) }
-    ensures run { IfOk result (λ r. IsWholeRun S.rules S.start P.stopped S.actors r.rounds r.events.items r.left.items) }
+    ensures run { IfOk result (λ r. IsWholeRun S.rules S.start S.stopped S.actors r.rounds r.events.items r.left.items) }
     ensures counted { IfOk result (λ r. Counted (rounds * turns * S.actors) r.rounds (length (joined (events_of r.logs.items)))) }
 {
     let (fabric, seats) = Fabric::make(alloc, room, number)?;

@@ -16,9 +16,9 @@ use Rattle.og_runs.proofs.Shown.{DataRun, slice_get_some}
 use Rattle.og_runs.proofs.Views.{ends, sorted_views}
 use Rattle.og_runs.proofs.Stated.{start_shows, clocks_within}
 use Rattle.og_fabric.specs.declared.rule.Side.{Side}
-use Rattle.og_fabric.specs.Sides.{Each, times, Place, in_queue, in_taken, Sides, sent_in, Fits, IsReadyFor, IsKept}
+use Rattle.og_fabric.specs.Sides.{Each, times, Place, in_queue, in_taken, Sides, sent_in, Fits, IsReadyFor, IsMetBy, IsKept}
 use Rattle.og_fabric.specs.Sides.Place.{Nowhere, Queue, Hand, Taken}
-use Rattle.og_fabric.specs.Scheme.{IsRunOf, HasRoom, IsReady, takes}
+use Rattle.og_fabric.specs.Scheme.{IsRunOf, IsMet, HasRoom, IsReady, takes}
 use Rattle.og_fabric.proofs.Lists.{each_map, get_more, put_all, put_here}
 use Rattle.og_fabric.proofs.Sorting.{sorted, sorted_is, length_sorted}
 
@@ -318,26 +318,38 @@ bounded {A} {K} {N} r f actors most room items s law k =
     let b : length items ≤ length x.world.flight = fewer_all items x.world.flight (λ i. let y : times i items ≡ in_queue (k.place i) = k.queue i in let z : in_queue (k.place i) ≤ 1 = one_place (k.place i) in omega (arith, y, z)) x.flying in
     omega (arith, a, b)
 
+-- the run of which an actor's own log is the part that is given
+own_run : {A K N : Type 0} → (r : Rules A K N) (f : ℕ → A) (actors most a : ℕ) (items : List (Msg K)) (s : Sides K) (k : IsKept r f actors most items s) (es : List (Event N)) (q : History A K) →
+    Local r a (start_history (f a)) es q → length es ≤ most → q.taken ≡ (s a).taken → q.sent ≡ (s a).sent → InRun r f actors most items (put (λ b. ((k.fits b).0, (k.fits b).1)) a (es, q))
+own_run {A} {K} {N} r f actors most a items s k es q l size taken sent = in_run r f actors most items s k (put (λ b. ((k.fits b).0, (k.fits b).1)) a (es, q))
+    (put_all (λ (b : ℕ) (z : List (Event N) × History A K). IsWitness r f most b (s b).sent (s b).taken z) (λ b. ((k.fits b).0, (k.fits b).1)) a (es, q)
+    (record { local = l; size = size; took = taken; rest = []; more = rw append-nil sent })
+    (λ b ne. fits_witness r f most b (s b).sent (s b).taken (k.fits b)))
+
+own_seat : {A K N : Type 0} → (r : Rules A K N) (f : ℕ → A) (actors most a : ℕ) (items : List (Msg K)) (c : ℕ → List (Event N) × History A K) (es : List (Event N)) (q : History A K) (y : InRun r f actors most items (put c a (es, q))) → a < actors → slice_get y.world.seats a ≡ Some (seat_of q)
+own_seat {A} {K} {N} r f actors most a items c es q y lt = y.seats a lt ∙ ap (λ (z : List (Event N) × History A K). Some (seat_of z.1)) (put_here c a (es, q))
+
+-- the state of an actor, whatever its log is, is one that a run leads to
+pub met : {A K N : Type 0} → (r : Rules A K N) (f : ℕ → A) (actors most a : ℕ) (items : List (Msg K)) (s : Sides K) → IsKept r f actors most items s → a < actors → IsMetBy r f actors most a (s a).sent (s a).taken None
+met {A} {K} {N} r f actors most a items s k lt es q l size taken sent =
+    let y : InRun r f actors most items (put (λ b. ((k.fits b).0, (k.fits b).1)) a (es, q)) = own_run r f actors most a items s k es q l size taken sent in
+    record { start = begin actors f; choices = choices y.events; world = y.world; events = y.events; run = y.run; seat = seat_of q; there = own_seat r f actors most a items (λ b. ((k.fits b).0, (k.fits b).1)) es q y lt; state = refl; flies = tt }
+
+-- with the first of the queue in flight, if that is to the actor
+pub met_first : {A K N : Type 0} → (r : Rules A K N) (f : ℕ → A) (actors most : ℕ) (x : Msg K) (items : List (Msg K)) (s : Sides K) → IsKept r f actors most (x ∷ items) s → x.to < actors → IsMetBy r f actors most x.to (s x.to).sent (s x.to).taken (Some x)
+met_first {A} {K} {N} r f actors most x items s k lt es q l size taken sent =
+    let y : InRun r f actors most (x ∷ items) (put (λ b. ((k.fits b).0, (k.fits b).1)) x.to (es, q)) = own_run r f actors most x.to (x ∷ items) s k es q l size taken sent in
+    record { start = begin actors f; choices = choices y.events; world = y.world; events = y.events; run = y.run; seat = seat_of q; there = own_seat r f actors most x.to (x ∷ items) (λ b. ((k.fits b).0, (k.fits b).1)) es q y lt; state = refl; flies = (y.flying.0, refl) }
+
 -- the first of the queue can be taken by its receiver, whatever its log is
 pub ready : {A K N : Type 0} → (r : Rules A K N) (f : ℕ → A) (actors most : ℕ) (x : Msg K) (items : List (Msg K)) (s : Sides K) → IsReady r f actors most → IsKept r f actors most (x ∷ items) s → x.to < actors →
     IsReadyFor r f actors most x.to (s x.to).sent (s x.to).taken x
 ready {A} {K} {N} r f actors most x items s law k lt es q l size taken sent =
-    let y : InRun r f actors most (x ∷ items) (put c x.to own) = in_run r f actors most (x ∷ items) s k (put c x.to own) witness in
-    let seat : slice_get y.world.seats x.to ≡ Some (seat_of q) = y.seats x.to lt ∙ ap (λ (z : List (Event N) × History A K). Some (seat_of z.1)) (put_here c x.to own) in
+    let y : InRun r f actors most (x ∷ items) (put (λ b. ((k.fits b).0, (k.fits b).1)) x.to (es, q)) = own_run r f actors most x.to (x ∷ items) s k es q l size taken sent in
+    let seat : slice_get y.world.seats x.to ≡ Some (seat_of q) = own_seat r f actors most x.to (x ∷ items) (λ b. ((k.fits b).0, (k.fits b).1)) es q y lt in
     let o : (o : Outcome A K N) × (takes r x (seat_of q) ≡ Some o) = law (begin actors f) (choices y.events) y.world y.events y.run x.id x (seat_of q) y.flying.0 seat in
     let clocks : ClocksWithin (choices y.events) y.world y.events = clocks_within r f (begin actors f) (choices y.events) y.world y.events y.run.run in
     let clock : x.stamp.clock ≤ length (choices y.events) = clocks.flight x.id x y.flying.0 in
     let count : length y.events ≡ length (choices y.events) = clocks.count in
     let size : length y.events ≤ actors * most = y.run.events in
     (o.0, o.1, omega (arith, clock, count, size))
-  where
-    c : ℕ → List (Event N) × History A K
-    c = λ a. ((k.fits a).0, (k.fits a).1)
-
-    own : List (Event N) × History A K
-    own = (es, q)
-
-    witness : (a : ℕ) → IsWitness r f most a (s a).sent (s a).taken (put (λ b. ((k.fits b).0, (k.fits b).1)) x.to (es, q) a)
-    witness = put_all (λ (a : ℕ) (z : List (Event N) × History A K). IsWitness r f most a (s a).sent (s a).taken z) (λ b. ((k.fits b).0, (k.fits b).1)) x.to (es, q)
-        (record { local = l; size = size; took = taken; rest = []; more = rw append-nil sent })
-        (λ b ne. fits_witness r f most b (s b).sent (s b).taken (k.fits b))

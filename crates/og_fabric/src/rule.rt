@@ -93,9 +93,9 @@ pub struct Pops<A, K, N, S> {
 
 impl<A, K, N, S: Scheme<A, K, N>> Outcome<Msg<K>, Sight<K>> for Pops<A, K, N, S> {
     ghost use Rattle.std.specs.Prelude.{◌≡◌};
-    ghost use Rattle.og_fabric.specs.Sides.{Each, on_sides, popped, IsReadyFor};
+    ghost use Rattle.og_fabric.specs.Sides.{Each, on_sides, popped, PopTells};
 
-    ghost then = { λ v x w. (w ≡ on_sides (λ h. popped h x) v) × Each (λ h. x.to ≡ h.actor → IsReadyFor S.rules S.start S.actors S.most h.actor h.sent h.taken x) v.sides };
+    ghost then = { λ v x w. (w ≡ on_sides (λ h. popped h x) v) × Each (λ h. PopTells S.rules S.start S.actors S.most h x) v.sides };
 }
 
 impl<A, K, N, S: Scheme<A, K, N>> Lesson<Msg<K>, Sight<K>> for Pops<A, K, N, S> {

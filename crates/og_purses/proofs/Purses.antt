@@ -113,16 +113,3 @@ has_room n b most w cs u es h =
 
 pub ready : (n b most : ℕ) → IsReady (rules n) (λ a. purse b) n most
 ready n b most w cs u es h i m x e at = (record { local = record { budget = x.local.budget; owed = x.local.owed - 1 }; letters = []; note = Some m.kind }, refl)
-
-pub room_for : (r : Rules Purse ℕ ℕ) (f : ℕ → Purse) (k n b most room : ℕ) → r ≡ rules k → f ≡ (λ a. purse b) → k ≡ n → k * b ≡ room → HasRoom r f n most room
-room_for r f k n b most room er ef en eroom =
-    subst (λ (z : Rules Purse ℕ ℕ). HasRoom z f n most room) (sym er)
-    (subst (λ (z : ℕ → Purse). HasRoom (rules k) z n most room) (sym ef)
-    (subst (λ (z : ℕ). HasRoom (rules k) (λ a. purse b) z most room) en
-    (subst (λ (z : ℕ). HasRoom (rules k) (λ a. purse b) k most z) eroom (has_room k b most))))
-
-pub ready_for : (r : Rules Purse ℕ ℕ) (f : ℕ → Purse) (k n b most : ℕ) → r ≡ rules k → f ≡ (λ a. purse b) → k ≡ n → IsReady r f n most
-ready_for r f k n b most er ef en =
-    subst (λ (z : Rules Purse ℕ ℕ). IsReady z f n most) (sym er)
-    (subst (λ (z : ℕ → Purse). IsReady (rules k) z n most) (sym ef)
-    (subst (λ (z : ℕ). IsReady (rules k) (λ a. purse b) z most) en (ready k b most)))

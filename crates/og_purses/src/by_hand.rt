@@ -13,11 +13,18 @@ use std::sync::Wait;
 pub struct Two;
 
 impl Scheme<Purse, u64, u64> for Two {
-    ghost use Rattle.og_purses.specs.Purses.{purse, rules};
+    ghost use Rattle.og_purses.specs.declared.Purse.{Purse as Known};
+    ghost use Rattle.og_purses.specs.Purses.{purse, rules, is_done};
+
+    ghost State = { Known };
+
+    ghost state = { λ x. x };
 
     ghost rules = { rules 2 };
 
     ghost start = { λ a. purse 1 };
+
+    ghost stopped = { λ x. is_done x };
 
     ghost actors = { 2 };
 

@@ -1,8 +1,8 @@
 //! An example of a protocol in threads: each actor spends its purse on letters to the next of a ring.
 //!
 //! It shows how a machine is put on `og_actors`, which stands below: a `Part` that runs one actor, a
-//! `Cast` that gives all at their start, and a scheme that a call picks, so that its number of actors
-//! and its budgets are values of the run. What it owes are two laws of its rules (`specs/Purses.antt`):
+//! `Cast` that gives all at their start, and a scheme of numbers that a call picks, so that its number of
+//! actors and its budgets are values of the run. What it owes are two laws of its rules (`specs/Purses.antt`):
 //! no more letters are in flight than were paid for, and each can be taken. Nothing stands above; the
 //! tests run it in threads. The module `by_hand` has two seats of a fabric without actors.
 #![tactic(auto)]
@@ -31,43 +31,72 @@ pub struct Purse {
     pub owed: u64,
 }
 
-// The call of `run_of` picks other members; these stand for the type alone.
-impl Scheme<Purse, u64, u64> for Brand {
-    ghost use Rattle.og_purses.specs.Purses.{purse, rules};
+/// How many actors a ring has, for how many letters each can pay, and how many events each makes at most.
+/// A call picks them.
+pub trait Rings {
+    ghost size: { ℕ };
 
-    ghost rules = { rules 1 };
+    ghost budget: { ℕ };
 
-    ghost start = { λ a. purse 0 };
+    ghost most: { ℕ };
+}
 
-    ghost actors = { 1 };
+// The call of `run_of` picks others; these stand for the type alone.
+impl Rings for Brand {
+    ghost size = { 1 };
+
+    ghost budget = { 0 };
 
     ghost most = { 0 };
+}
 
-    ghost room = { 0 };
+/// The scheme of a ring.
+pub struct OfRing<M> {
+    of: PhantomData<M>,
+}
+
+impl<M: Rings> Scheme<Purse, u64, u64> for OfRing<M> {
+    ghost use Rattle.std.specs.Prelude.{◌*◌};
+    ghost use Rattle.og_purses.specs.declared.Purse.{Purse as Known};
+    ghost use Rattle.og_purses.specs.Purses.{purse, rules, is_done};
+
+    ghost State = { Known };
+
+    ghost state = { λ x. x };
+
+    ghost rules = { rules M.size };
+
+    ghost start = { λ a. purse M.budget };
+
+    ghost stopped = { λ x. is_done x };
+
+    ghost actors = { M.size };
+
+    ghost most = { M.most };
+
+    ghost room = { M.size * M.budget };
 }
 
 /// What runs one actor of a ring of so many.
 #[derive(Drop)]
-pub struct Spender<S: Scheme<Purse, u64, u64>> {
+pub struct Spender<M: Rings> {
     purse: Purse,
     actors: u8,
     outbox: [Letter<u64>; 1],
     count: usize,
-    of: PhantomData<S>,
-    ghost plays: { S.rules ≡ rules actors },
+    of: PhantomData<M>,
+    ghost plays: { M.size ≡ actors },
     ghost fits: { count ≤ 1 },
 }
 
-impl<S: Scheme<Purse, u64, u64>> Part<Purse, u64, u64, S> for Spender<S> {
+impl<M: Rings> Part<Purse, u64, u64, OfRing<M>> for Spender<M> {
     ghost use Rattle.std.specs.Prelude.{◌≡◌, take, true, ℕ, length, ◌≤◌};
     ghost use Rattle.og_actors.specs.Actors.{moved, is_there};
-    ghost use Rattle.og_purses.specs.Purses.{is_done};
+    ghost use Rattle.og_purses.specs.Purses.{takes};
 
-    ghost state = { λ s. s.purse };
+    ghost kept = { λ s. s.purse };
 
     ghost outbox = { λ s. take s.count s.outbox };
-
-    ghost stopped = { is_done };
 
     fn can_act(&self, _number: u8) -> bool {
         self.purse.budget != 0
@@ -83,9 +112,9 @@ impl<S: Scheme<Purse, u64, u64>> Part<Purse, u64, u64, S> for Spender<S> {
         None
     }
 
-    fn take(&mut self, number: u8, message: Msg<u64>) -> Option<u64>
-        requires possible { is_there (S.rules.take number self.old.purse message) ≡ true }
-        ensures outcome { S.rules.take number self.old.purse message ≡ moved self.new.purse (take self.new.count self.new.outbox) result }
+    fn take(&mut self, _number: u8, message: Msg<u64>) -> Option<u64>
+        requires possible { is_there (takes self.old.purse message) ≡ true }
+        ensures outcome { takes self.old.purse message ≡ moved self.new.purse (take self.new.count self.new.outbox) result }
         ensures few { length (take self.new.count self.new.outbox) ≤ 65536 }
     {
         self.count = 0;
@@ -115,17 +144,17 @@ fn next(actors: u8, number: u8) -> u8
 
 /// So many actors, each of which can pay for so many letters.
 #[derive(Drop)]
-pub struct Ring<S: Scheme<Purse, u64, u64>> {
+pub struct Ring<M: Rings> {
     actors: u8,
     budget: u64,
-    of: PhantomData<S>,
-    ghost plays: { S.rules ≡ rules actors },
-    ghost starts: { S.start ≡ (λ a. purse budget) },
+    of: PhantomData<M>,
+    ghost plays: { M.size ≡ actors },
+    ghost starts: { M.budget ≡ budget },
 }
 
-impl<S: Scheme<Purse, u64, u64>> Cast<Purse, u64, u64, S, Spender<S>> for Ring<S> {
-    fn part(&self, _number: u8) -> Spender<S> {
-        Spender {
+impl<M: Rings> Cast<Purse, u64, u64, OfRing<M>, Spender<M>> for Ring<M> {
+    fn part(&self, _alloc: Global, _number: u8) -> Result<Spender<M>, AllocError> {
+        Ok(Spender {
             purse: Purse {
                 budget: self.budget,
                 owed: self.budget,
@@ -134,12 +163,12 @@ impl<S: Scheme<Purse, u64, u64>> Cast<Purse, u64, u64, S, Spender<S>> for Ring<S
             outbox: [Letter { to: 0, kind: 0 }],
             count: 0,
             of: PhantomData,
-        }
+        })
     }
 }
 
-/// As `run`, for any scheme that is this ring's.
-fn run_of<S: Scheme<Purse, u64, u64> + Send + Sync, R: Threads + Wait + Sync, G: Gate + Sync>(
+/// As `run`, for any ring that is this one.
+fn run_of<M: Rings + Send + Sync, R: Threads + Wait + Sync, G: Gate + Sync>(
     rt: &R,
     alloc: Global,
     gate: &G,
@@ -148,25 +177,22 @@ fn run_of<S: Scheme<Purse, u64, u64> + Send + Sync, R: Threads + Wait + Sync, G:
     rounds: u32,
     turns: u32,
 ) -> Result<Ran<u64, u64>, AllocError>
-    requires actors { (0 < actors) × (actors ≡ S.actors) }
-    requires budget { (0 < budget) × (budget < 2 ^ 32) }
-    requires most { rounds * turns ≡ S.most }
+    requires actors { (0 < actors) × (M.size ≡ actors) }
+    requires budget { (0 < budget) × (budget < 2 ^ 32) × (M.budget ≡ budget) }
+    requires most { M.most ≡ rounds * turns }
     requires few { rounds * turns < 2 ^ 40 }
-    requires rules { S.rules ≡ rules actors }
-    requires start { S.start ≡ (λ a. purse budget) }
-    requires room { actors * budget ≡ S.room }
-    ensures logs { IfOk result (λ r. AreLogs S.rules S.start S.actors r.logs.items r.left.items) }
+    ensures logs { IfOk result (λ r. AreLogs (rules M.size) (λ a. purse M.budget) M.size r.logs.items r.left.items) }
     ensures merged { IfOk result (λ r. IsSorted (joined (events_of r.logs.items)) r.events.items) }
-    ensures run { IfOk result (λ r. IsWholeRun S.rules S.start is_done S.actors r.rounds r.events.items r.left.items) }
-    ensures counted { IfOk result (λ r. Counted (rounds * turns * S.actors) r.rounds (length (joined (events_of r.logs.items)))) }
+    ensures run { IfOk result (λ r. IsWholeRun (rules M.size) (λ a. purse M.budget) is_done M.size r.rounds r.events.items r.left.items) }
+    ensures counted { IfOk result (λ r. Counted (rounds * turns * M.size) r.rounds (length (joined (events_of r.logs.items)))) }
 {
-    let ring = Ring::<S> {
+    let ring = Ring::<M> {
         actors,
         budget,
         of: PhantomData,
     };
     let room = usize::from(actors) * budget as usize;
-    whole::run::<Purse, u64, u64, S, Spender<S>, Ring<S>, G, R>(
+    whole::run::<Purse, u64, u64, OfRing<M>, Spender<M>, Ring<M>, G, R>(
         rt, alloc, &ring, gate, room, actors, rounds, turns,
     )
 }

@@ -1,0 +1,5 @@
+pub mod Starts
+pub mod Reached
+pub mod Moves
+pub mod Sorts
+pub mod Whole
