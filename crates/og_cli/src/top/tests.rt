@@ -102,7 +102,7 @@ fn a_run_prints_its_text(rt: HostRuntime) -> Result<(), Fail> {
             b"origin 2 1 64 64 2 8 1000000 64 32 4 1024\nact 0\nact 0\nact 0\ntake 1 0 0\ntake 0 1 0\n\
             act 0\ntake 0 0 1\ntake 0 0 2\nat 8 0 store 0000000000100000 4 000000000000002a\nlimit 8 1\n",
         ),
-        ("simulate store.raw --events 9 --raw", 0, TEXT),
+        ("simulate store.raw --events 12 --raw", 0, TEXT),
         ("simulate --raw --nodes=1 store.raw", 0, TEXT),
         ("simulate store.raw --draw 7 --raw", 0, TEXT),
         (
@@ -228,9 +228,9 @@ fn a_refusal_is_one_line(rt: HostRuntime) -> Result<(), Fail> {
             b"origin: choices line 1 Grammar\n",
         ),
         (
-            "storm 7 --nodes 128 --frames 2",
+            "storm 7 --nodes 4 --frames 2",
             4,
-            b"origin: image NoFrames need 264 have 256\n",
+            b"origin: image NoFrames need 12 have 8\n",
         ),
         (
             "simulate missing --raw",
