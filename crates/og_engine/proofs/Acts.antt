@@ -22,7 +22,7 @@ use Rattle.og_node.specs.Kept.{KeptNode, node_of}
 use Rattle.og_node.specs.Node.{act_of as node_act}
 use Rattle.og_mover.specs.Table.{MoverState, has_act, act_of as mover_act}
 use Rattle.og_machine.specs.Machine.{ActorState, mover_may, by_node, by_mover, refusal_by, refusal_of}
-use Rattle.og_engine.specs.Marks.{AreMarked, is_marked, is_running_by}
+use Rattle.og_engine.specs.Marks.{AreMarked, is_marked, is_ready, is_running_by}
 use Rattle.og_engine.specs.Kept.{KeptMachine, IsMade, Moves, HaveRoom, machine_of, setup_in, node_seat, mover_seat}
 use Rattle.og_stores.proofs.Machines.{lines_are_low}
 use Rattle.og_engine.proofs.Bits.{get_changed, marked_again}
@@ -176,6 +176,12 @@ marked_back image kept old at actor y z may on runs ready running is made at_is 
     (may_is ∙ ap (λ (x : Seat KeptNode). may_act image x.local.processor) same)
     (λ k. ready_is k ∙ ap (λ (a : ℕ). if nat_eq k a then on else is_marked kept.ready k) (sym at_is) ∙ ap (λ (t : Bool). if nat_eq k at then t else is_marked kept.ready k) on_is)
     (λ k. running_is k ∙ ap (λ (a : ℕ). if nat_eq k a then runs else is_marked kept.running k) (sym at_is) ∙ ap (λ (t : Bool). if nat_eq k at then t else is_marked kept.running k) runs_is)
+
+-- a node's mark says whether it may act
+pub node_marked_as : (image : ImageState) (kept old : KeptMachine) (at actor : ℕ) (x : Seat KeptNode) (mark : Bool) → kept ≡ old → IsMade image old → at ≡ actor → actor < length old.nodes → x ≡ get_or kept.nodes at x →
+    mark ≡ is_marked kept.ready actor → mark ≡ is_ok (may_act image x.local.processor)
+node_marked_as image kept old at actor x mark is made at_is lt read mark_is =
+    mark_is ∙ ap (is_marked kept.ready) (sym at_is) ∙ (made_as image kept old is made).2.marks.ready_is at ∙ ap (is_ready image) (node_there kept old at actor x is at_is lt read)
 
 -- a node's act, from what the calls give
 pub node_acted_as : (image : ImageState) (kept old : KeptMachine) (at actor : ℕ) (x seat y : Seat KeptNode) (can : Result (Unit {0}) NotEnabled) (flight : Flying Kind) (event : Event Note) (ready running : ℕ) → kept ≡ old → IsMade image old → at ≡ actor → actor < length old.nodes →

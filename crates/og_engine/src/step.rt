@@ -1,7 +1,7 @@
 //! One event of the machine: an act, or the take of a message, of one actor.
 
 ghost use Rattle.std.specs.Prelude.{◌≡◌, ℕ, ◌+◌, ◌<◌, ◌≤◌, ◌^◌, length, Some, None, IfOk, OnOk, OnErr, IsTrue};
-ghost use Rattle.std.specs.Result.{result_err};
+ghost use Rattle.std.specs.Result.{is_ok, result_err};
 ghost use Rattle.og_runs.specs.declared.Choice.TheVariants.{Act, Take};
 ghost use Rattle.og_runs.specs.World.{world_step};
 ghost use Rattle.og_node.specs.Kept.{node_of};
@@ -12,7 +12,7 @@ ghost use Rattle.og_processor.specs.Sound.{IsSound, IsLowProcessor, IsLowKind};
 ghost use Rattle.og_machine.specs.Machine.{rules, refusal_of, by_node, by_mover};
 ghost use Rattle.og_engine.specs.Kept.{machine_of, setup_in, node_seat, mover_seat, IsMade, Moves, HaveRoom, with_letters};
 
-use crate::marks::with_mark;
+use crate::marks::{has_mark, with_mark};
 use crate::{Machine, runs};
 use og_base::{ActorId, Choice, MsgId, NotEnabled, Stamp, act_stamp, take_stamp};
 use og_flight::Flight;
@@ -134,6 +134,17 @@ fn take_of_mover(
     }
 }
 
+/// Whether a node may act: its mark says that it may, or the node says why it may not.
+fn may_act_by(mark: bool, node: &Node, image: &Image) -> Result<(), NotEnabled>
+    requires { mark ≡ is_ok (may_act image.now node.now.processor) }
+    ensures { result ≡ may_act image.now node.now.processor }
+{
+    if mark {
+        return Ok(());
+    }
+    node.can_act(image)
+}
+
 impl Machine {
     /// Makes one event. It takes no memory; after a refusal nothing has changed.
     pub fn step(&mut self, image: &Image, choice: Choice) -> Result<Event, NotEnabled>
@@ -186,7 +197,11 @@ impl Machine {
         ensures stays_made { IsMade image.now self.new }
     {
         let at = usize::from(actor);
-        self.nodes[at].local.can_act(image)?;
+        may_act_by(
+            has_mark(self.ready, actor),
+            &self.nodes[at].local,
+            image,
+        )?;
         let event = act_of_node(
             &mut self.nodes[at],
             &mut self.flight,

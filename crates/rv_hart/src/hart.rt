@@ -1,7 +1,8 @@
 //! A hart of RV64IA: registers, pc and the instructions that are left.
 //!
 //! It asks for what its next instruction needs, and executes it once that is there. Decoding and
-//! executing take no memory and look nothing up in a map.
+//! executing take no memory and look nothing up in a map. The instruction at the pc is decoded where the
+//! one before it is executed, and kept: each is decoded once, but for the first.
 
 ghost use Rattle.std.specs.Prelude.{◌≡◌, ◌≢◌, ◌<◌, ◌≤◌, ◌^◌, ℕ, slice_index, IfSome, Some, None, true};
 ghost use Rattle.og_base.specs.declared.Cause.{Cause};
@@ -13,11 +14,12 @@ ghost use Rattle.og_image.specs.Image.{is_data_of};
 ghost use Rattle.rv_hart.specs.Hart.{AnswerIgnored, HartState, IsStop, call_need, constant_of, access_need, data_need, target_need, instr_of, imm_of, first_source, second_source, access_in, target_in, with_result, start_of, need_of, finish_of, halt_of};
 
 use crate::compute::{jump_target, memory_access, result_value};
+use crate::decoded::Decoded;
 use crate::work::{Work, find_work};
 use og_base::{Cause, NodeId};
 use og_image::Image;
 use og_line::Access;
-use rv_decode::{Instr, Op, decode};
+use rv_decode::{Instr, Op};
 use std::marker::Model;
 
 /// What the next instruction needs.
@@ -34,12 +36,14 @@ pub enum Need {
 }
 
 /// A hart.
-#[derive(Clone, Copy)]
+#[derive(Drop)]
 pub struct Hart {
     regs: [u64; 32],
     pc: u64,
     left: u32,
     cause: Option<Cause>,
+    // The word at the pc, decoded, where there is one.
+    ahead: Decoded,
 }
 
 impl Model for Hart {
@@ -51,8 +55,6 @@ impl Model for Hart {
     ghost view = { λ h. record { regs = h.regs; pc = h.pc; left = h.left; cause = h.cause } };
 
     ghost invariant = { λ h. slice_index h.regs 0 ≡ 0 };
-
-    ghost inverse = { λ h. record { regs = h.regs; pc = h.pc; left = h.left; cause = h.cause } };
 }
 
 /// What an instruction works on.
@@ -85,6 +87,7 @@ impl Hart {
             pc: entry,
             left: instructions,
             cause: None,
+            ahead: Decoded::of(0),
         }
     }
 
@@ -94,7 +97,7 @@ impl Hart {
         ensures registers { IfSome result HasRegisters }
     {
         let word = image.fetch(self.pc)?;
-        decode(word)
+        self.ahead.instruction(word)
     }
 
     /// An instruction's operands, read.
@@ -143,7 +146,7 @@ impl Hart {
         let Some(word) = image.fetch(self.pc) else {
             return Need::Stop(Cause::Fetch);
         };
-        let Some(instr) = decode(word) else {
+        let Some(instr) = self.ahead.instruction(word) else {
             return Need::Stop(Cause::Illegal);
         };
         match instr.op {
@@ -210,6 +213,16 @@ impl Hart {
         self.pc = jump_target(work, imm, self.pc, a, b).unwrap_or(next);
         self.left -= 1;
         self.write(instr.rd, value);
+        self.look_ahead(image);
+    }
+
+    /// Decodes the instruction at the pc.
+    fn look_ahead(&mut self, image: &Image)
+        ensures { self.new ≡ self.old }
+    {
+        if let Some(word) = image.fetch(self.pc) {
+            self.ahead.keep(word);
+        }
     }
 
     /// Stops the hart with the need's cause, at the instruction's pc.

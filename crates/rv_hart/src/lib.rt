@@ -6,6 +6,7 @@
 #![tactic(auto)]
 
 mod compute;
+mod decoded;
 pub mod hart;
 #[cfg(test)]
 mod tests;
