@@ -197,11 +197,7 @@ impl Machine {
         ensures stays_made { IsMade image.now self.new }
     {
         let at = usize::from(actor);
-        may_act_by(
-            has_mark(self.ready, actor),
-            &self.nodes[at].local,
-            image,
-        )?;
+        may_act_by(has_mark(self.ready, actor), &self.nodes[at].local, image)?;
         let event = act_of_node(
             &mut self.nodes[at],
             &mut self.flight,
