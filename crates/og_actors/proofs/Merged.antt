@@ -1,5 +1,5 @@
 -- From seats to a run.
-use Rattle.std.proofs.Common.{◌≡◌, ◌≢◌, ℕ, zero, suc, ◌+◌, ◌*◌, ◌≤◌, Bool, true, false, ◌&&◌, cond, nat_eq, Option, None, Some, inl, inr, slice_get, arith, refl, sym, subst, List, [], ◌∷◌, ◌++◌, length, take, drop, mul-le-mul_right, ap}
+use Rattle.std.proofs.Common.{◌≡◌, ◌≢◌, ℕ, zero, suc, ◌+◌, ◌*◌, ◌≤◌, Bool, true, false, ◌&&◌, cond, nat_eq, Some, inl, inr, slice_get, arith, refl, sym, subst, List, [], ◌∷◌, ◌++◌, length, take, drop, mul-le-mul_right, ap}
 use Rattle.std.proofs.Math.Path.{◌∙◌}
 use Rattle.std.specs.Prelude.{All, map}
 use Rattle.std.specs.List.{list_all}
@@ -12,7 +12,7 @@ use Rattle.og_runs.specs.declared.Msg.{Msg}
 use Rattle.og_runs.specs.declared.Event.{Event}
 use Rattle.og_runs.specs.declared.Log.{Log}
 use Rattle.og_runs.specs.declared.Seat.{Seat}
-use Rattle.og_runs.specs.Runs.{Rules, History, Local, start_history, choices, joined, IsSorted}
+use Rattle.og_runs.specs.Runs.{Rules, History, choices, joined, IsSorted}
 use Rattle.og_runs.specs.World.{World, WorldRun, find, seat_of, events_of}
 use Rattle.og_runs.specs.Laws.{IsStart, EndsAsLogs}
 use Rattle.og_runs.specs.Views.{View, LocalViews, ConsistentViews, logs_of}

@@ -1,5 +1,5 @@
 -- Actors by what is kept of them, and by their states.
-use Rattle.std.proofs.Common.{◌≡◌, ℕ, zero, suc, ◌+◌, ◌*◌, ◌^◌, ◌<◌, ◌≤◌, Bool, true, ◌&&◌, arith, refl, sym, subst, List, [], ◌∷◌, ◌++◌, length, slice_index_or, take, drop, Option, None, Some, inl, ap}
+use Rattle.std.proofs.Common.{◌≡◌, ℕ, zero, suc, ◌+◌, ◌*◌, ◌^◌, ◌<◌, ◌≤◌, Bool, ◌&&◌, arith, refl, sym, subst, List, [], ◌∷◌, ◌++◌, length, slice_index_or, take, drop, Option, None, Some, inl, ap}
 use Rattle.std.proofs.Math.Path.{◌∙◌}
 use Rattle.std.specs.Prelude.{All, map}
 use Rattle.std.proofs.lemmas.List.Sums.{sum_by-cons}
@@ -7,7 +7,7 @@ use Rattle.atomic_table.specs.Seated.{TableId}
 use Rattle.og_runs.specs.Runs.{Rules}
 use Rattle.og_actors.specs.declared.rounds.Rounds.{Rounds}
 use Rattle.og_actors.specs.declared.rounds.Rounds.TheVariants.{Stopped, Spent, Memory}
-use Rattle.og_actors.specs.Actors.{Playing, seen, newcomer, closed_of, MakesTurns, LeadsHere}
+use Rattle.og_actors.specs.Actors.{Playing, seen, newcomer, closed_of, LeadsHere}
 use Rattle.og_actors.specs.Rounds.{all_seen, EachTurns, EachTurnsBy, IsRound, GoOn, AfterRounds, Standing, AreSeated, AreInTurn, LeadAll, all_whole, all_stopped, made_by, idle_by}
 use Rattle.og_actors.proofs.Turns.{Keeps}
 use Rattle.og_actors.proofs.Counting.{EachKeeps, go_keep, sums, sums_fit, all_within}

@@ -1,16 +1,12 @@
 -- A source that is assembled and an image that is printed are written, where nothing hinders, or memory wants.
-use Rattle.std.proofs.Common.{◌≡◌, ℕ, ◌+◌, ◌^◌, ◌-◌, ◌<◌, ◌≤◌, true, false, List, [], ◌∷◌, ◌++◌, length, Option, Some, None, Result, Ok, Err, ◌⊎◌, inl, inr, arith, refl, ap, subst, length-append}
+use Rattle.std.proofs.Common.{◌≡◌, ℕ, ◌+◌, ◌^◌, ◌-◌, ◌<◌, ◌≤◌, false, List, [], ◌∷◌, ◌++◌, length, Option, Some, None, Ok, Err, ◌⊎◌, inl, inr, arith, refl, ap, subst, length-append}
 use Rattle.std.specs.Prelude.{IsSomeAnd, ⊤}
 use Rattle.og_elf.specs.Raw.{is_raw_out}
 use Rattle.og_io.specs.Outside.{ShelfState, SinkState, Files, file_of, HasFile, HasLongFile, AddsName, Rises, IsAsBefore}
-use Rattle.rv_asm.specs.declared.source.SourceFault.{SourceFault}
-use Rattle.rv_asm.specs.declared.source.SourceFault.TheVariants.{Line as AtLine}
 use Rattle.rv_asm.specs.Source.{assembled}
-use Rattle.og_tools.specs.declared.source.AssembleFault.{AssembleFault}
 use Rattle.og_tools.specs.declared.source.AssembleFault.TheVariants as assemble
-use Rattle.og_tools.specs.declared.image.DisassembleFault.{DisassembleFault}
 use Rattle.og_tools.specs.declared.image.DisassembleFault.TheVariants as disassemble
-use Rattle.og_tools.specs.Tools.{IsSource, AssembleEnds, DisassembleEnds}
+use Rattle.og_tools.specs.Tools.{IsSource}
 use Rattle.og_cli.specs.declared.exit.Exit.{Exit}
 use Rattle.og_cli.specs.declared.exit.Exit.TheVariants as exit
 use Rattle.og_cli.specs.Tools.{Assembles, Disassembles, HasSource, HasRawImage}

@@ -1,5 +1,5 @@
 -- Words that aren't read leave all as it was.
-use Rattle.std.proofs.Common.{◌≡◌, Option, Some, None, inl, refl, sym, ◌∙◌}
+use Rattle.std.proofs.Common.{◌≡◌, Option, Some, None, inl, refl}
 use Rattle.og_words.specs.declared.WordsFault.{WordsFault}
 use Rattle.og_words.specs.declared.WordsFault.TheVariants as words
 use Rattle.og_words.specs.Words.{JobState}

@@ -1,5 +1,5 @@
 -- What nothing hinders is done, or memory wants.
-use Rattle.std.proofs.Common.{◌≡◌, ℕ, ◌≤◌, nat_lt, arith, Bool, true, false, List, length, Option, None, Some, Result, Ok, Err, ◌⊎◌, inl, inr, refl, ap, subst, sym}
+use Rattle.std.proofs.Common.{◌≡◌, ℕ, ◌≤◌, nat_lt, arith, Bool, true, false, List, Option, None, Some, Result, Ok, Err, ◌⊎◌, inl, inr, refl, ap, subst, sym}
 use Rattle.std.proofs.lemmas.Bool.Decides.{nat_tests}
 use Rattle.og_base.specs.declared.NotEnabled.{NotEnabled}
 use Rattle.og_base.specs.declared.Settings.{Settings}
@@ -14,22 +14,22 @@ use Rattle.og_load.specs.Choices.{feeds_of}
 use Rattle.og_print.specs.declared.fault.RunFault.{RunFault}
 use Rattle.og_print.specs.declared.fault.RunFault.TheVariants as fault
 use Rattle.og_headline.specs.Headline.{IsRefused}
-use Rattle.og_print.specs.Runs.{image_fault, frames_fault, file_setup}
-use Rattle.og_print.specs.Files.{HasProgram, AreRead, SimulationEnds, ReplayEnds, unplaced}
+use Rattle.og_print.specs.Runs.{Course, by_draws, image_fault, frames_fault, file_setup}
+use Rattle.og_print.specs.Files.{AreRead, FileEnds, ReplayEnds, unplaced}
 use Rattle.og_print.specs.Storm.{StormEnds}
 use Rattle.og_image.specs.Storm.{storm_of}
 use Rattle.og_cli.specs.declared.exit.Exit.{Exit}
 use Rattle.og_cli.specs.declared.exit.Exit.TheVariants as exit
-use Rattle.og_cli.specs.Accepted.{Tells, IsAcceptedImage, IsAcceptedProgram, AreAcceptedChoices, AreAccepted, IsAcceptedStorm}
+use Rattle.og_cli.specs.Accepted.{Tells, IsAcceptedImage, IsAcceptedProgram, AreAcceptedChoices, IsAcceptedStorm}
 use Rattle.og_cli.specs.Runs.{run_exit}
-use Rattle.og_cli.specs.Command.{CommandEnds, HasRun, IsDone, IsUnhindered, EndsUnhindered}
+use Rattle.og_cli.specs.Command.{CommandEnds, HasRun, EndsUnhindered}
 use Rattle.og_cli.proofs.Files.{no_rise, no_name, told, no_long, source_done, image_done}
 
 -- a run ended, or memory wants
-abbrev HasEnded : Exit → Type 0
+abbrev pub HasEnded : Exit → Type 0
 HasEnded answer = HasRun answer ⊎ (answer ≡ exit.Memory)
 
--- ------------------------------------------------------------ a simulation
+-- ------------------------------------------------------------ a run of the program in a file
 
 -- an image that is accepted has no fault
 no_fault : {A : Type 0} → (raw : Bool) (name : List ℕ) (settings : Settings) (shelf : ShelfState) (bytes : List ℕ) (f : ImageFault) → Tells shelf.files name (IsAcceptedImage raw settings) → IsImageFile name shelf bytes → image_fault raw bytes settings ≡ Some f → A
@@ -38,19 +38,19 @@ no_fault raw name settings shelf bytes f fine file wrong =
     let none : image_fault raw bytes settings ≡ None = good.1 in
     absurd (cc (none, wrong))
 
-simulated : (raw : Bool) (name : List ℕ) (settings : Settings) (number most : ℕ) (shelf after : ShelfState) (old new : SinkState) (ended : Result Bool RunFault) → SimulationEnds raw name settings number most shelf after old new ended
+pub file_ended : (raw : Bool) (name : List ℕ) (settings : Settings) (course : Course) (shelf after : ShelfState) (old new : SinkState) (ended : Result Bool RunFault) → FileEnds raw name settings course shelf after old new ended
     → Tells shelf.files name (IsAcceptedImage raw settings) → after.failed ≡ shelf.failed → IsAsBefore old.faults new.faults → HasEnded (run_exit ended)
-simulated raw name settings number most shelf after old new (Ok true) ends fine read written = inl (inl refl)
-simulated raw name settings number most shelf after old new (Ok false) ends fine read written = inl (inr refl)
-simulated raw name settings number most shelf after old new (Err fault.Unread) ends fine read written = no_name name shelf.failed after.failed read (ap (λ (s : ShelfState). s.failed) ends.0)
-simulated raw name settings number most shelf after old new (Err fault.ChoicesUnread) ends fine read written = absurd ends
-simulated raw name settings number most shelf after old new (Err (fault.Image images.TooLong)) ends fine read written = no_long (IsAcceptedImage raw settings) 67108864 shelf.files name (λ b good. good.0) fine ends.2
-simulated raw name settings number most shelf after old new (Err (fault.Image images.Raw)) (same, kept, (bytes, file, wrong)) fine read written = no_fault raw name settings shelf bytes images.Raw fine file wrong
-simulated raw name settings number most shelf after old new (Err (fault.Image (images.Elf cause at))) (same, kept, (bytes, file, wrong)) fine read written = no_fault raw name settings shelf bytes (images.Elf cause at) fine file wrong
-simulated raw name settings number most shelf after old new (Err (fault.Image (images.NoFrames need have))) (same, kept, (bytes, file, wrong)) fine read written = no_fault raw name settings shelf bytes (images.NoFrames need have) fine file wrong
-simulated raw name settings number most shelf after old new (Err (fault.Choices f)) ends fine read written = absurd ends
-simulated raw name settings number most shelf after old new (Err fault.Memory) ends fine read written = inr refl
-simulated raw name settings number most shelf after old new (Err fault.Unwritten) (same, (bytes, file, sound, (text, quiet, ran, cut))) fine read written = no_rise old.faults new.faults written cut.1
+file_ended raw name settings course shelf after old new (Ok true) ends fine read written = inl (inl refl)
+file_ended raw name settings course shelf after old new (Ok false) ends fine read written = inl (inr refl)
+file_ended raw name settings course shelf after old new (Err fault.Unread) ends fine read written = no_name name shelf.failed after.failed read (ap (λ (s : ShelfState). s.failed) ends.0)
+file_ended raw name settings course shelf after old new (Err fault.ChoicesUnread) ends fine read written = absurd ends
+file_ended raw name settings course shelf after old new (Err (fault.Image images.TooLong)) ends fine read written = no_long (IsAcceptedImage raw settings) 67108864 shelf.files name (λ b good. good.0) fine ends.2
+file_ended raw name settings course shelf after old new (Err (fault.Image images.Raw)) (same, kept, (bytes, file, wrong)) fine read written = no_fault raw name settings shelf bytes images.Raw fine file wrong
+file_ended raw name settings course shelf after old new (Err (fault.Image (images.Elf cause at))) (same, kept, (bytes, file, wrong)) fine read written = no_fault raw name settings shelf bytes (images.Elf cause at) fine file wrong
+file_ended raw name settings course shelf after old new (Err (fault.Image (images.NoFrames need have))) (same, kept, (bytes, file, wrong)) fine read written = no_fault raw name settings shelf bytes (images.NoFrames need have) fine file wrong
+file_ended raw name settings course shelf after old new (Err (fault.Choices f)) ends fine read written = absurd ends
+file_ended raw name settings course shelf after old new (Err fault.Memory) ends fine read written = inr refl
+file_ended raw name settings course shelf after old new (Err fault.Unwritten) (same, (bytes, file, sound, (text, quiet, ran, cut))) fine read written = no_rise old.faults new.faults written cut.1
 
 -- ------------------------------------------------------------ a replay
 
@@ -132,7 +132,7 @@ pub ends_unhindered : (asked : Option JobState) (shelf after : ShelfState) (old 
 ends_unhindered None shelf after old new answer ends = tt
 ends_unhindered (Some job) shelf after old new answer (inl left) = λ u. inr left.0
 ends_unhindered (Some (simulate image raw settings draw events)) shelf after old new answer (inr (s, numbers, (ended, ends, is))) =
-    λ u. subst (λ (x : Exit). HasEnded x) (sym is) (simulated raw image s draw events shelf after old new ended ends (u.accepted s numbers) u.read u.written)
+    λ u. subst (λ (x : Exit). HasEnded x) (sym is) (file_ended raw image s (by_draws draw events) shelf after old new ended ends (u.accepted s numbers) u.read u.written)
 ends_unhindered (Some (run image raw settings rounds turns)) shelf after old new answer (inr ends) = λ u. absurd u.accepted
 ends_unhindered (Some (replay image choices raw settings given)) shelf after old new answer (inr (s, g, numbers, options, (ended, ends, is))) =
     λ u. subst (λ (x : Exit). HasEnded x) (sym is) (replayed raw image choices s g shelf after old new ended ends (u.accepted s g numbers options) u.read u.written)

@@ -1,16 +1,16 @@
 -- The command from its words to its answer.
 use Rattle.std.specs.Prelude.{◌≡◌, ℕ, ◌⊎◌, List, [], Option, None, Some, IfSome}
 use Rattle.og_base.specs.declared.Settings.{Settings}
-use Rattle.og_base.specs.Settings.{SettingsState, settings_seen}
+use Rattle.og_base.specs.Settings.{settings_seen}
 use Rattle.og_io.specs.Outside.{ShelfState, SinkState, Files, TellsLongFile, IsAsBefore}
 use Rattle.og_words.specs.declared.job.Given.{Given}
-use Rattle.og_words.specs.Words.{GivenState, given_seen, JobState, simulate, run, replay, storm, assemble, disassemble}
+use Rattle.og_words.specs.Words.{given_seen, JobState, simulate, run, replay, storm, assemble, disassemble}
 use Rattle.og_load.specs.declared.image.ImageFault.TheVariants as fault
 use Rattle.og_cli.specs.declared.exit.Exit.{Exit}
 use Rattle.og_cli.specs.declared.exit.Exit.TheVariants as exit
 use Rattle.og_cli.specs.declared.exit.WordsFile.TheVariants as file
 use Rattle.og_cli.specs.declared.exit.SourceFault.TheVariants as source
-use Rattle.og_cli.specs.Exit.{FileNames, status_of, error_line, IsReported}
+use Rattle.og_cli.specs.Exit.{FileNames}
 use Rattle.og_cli.specs.Runs.{Simulates, Replays, Storms}
 use Rattle.og_cli.specs.Tools.{Assembles, Disassembles, HasSource, HasRawImage}
 use Rattle.og_cli.specs.Accepted.{Tells, IsAcceptedImage, AreAccepted, IsAcceptedStorm}
@@ -99,11 +99,3 @@ IsDone other answer = HasRun answer
 -- what nothing hinders is done, but for want of memory
 abbrev pub EndsUnhindered : Option JobState → ShelfState → ShelfState → SinkState → SinkState → Exit → Type 0
 EndsUnhindered asked shelf after old new answer = IfSome asked (λ job. IsUnhindered job shelf after old new → IsDone job answer ⊎ (answer ≡ exit.Memory))
-
--- ------------------------------------------------------------ the status
-
--- the status is that of an answer with which the command ends, and of which the standard error tells
-abbrev pub EndsWithStatus : Option JobState → ShelfState → ShelfState → SinkState → SinkState → SinkState → SinkState → ℕ → Type 0
-EndsWithStatus asked shelf after old new err_before err_after status =
-    (answer : Exit) × (status ≡ status_of answer) × CommandEnds asked shelf after old new answer × EndsUnhindered asked shelf after old new answer
-    × IsReported (error_line (names_of asked) answer) err_before err_after

@@ -18,7 +18,7 @@ use Rattle.og_runs.proofs.Stated.{start_shows, clocks_within}
 use Rattle.og_fabric.specs.declared.rule.Side.{Side}
 use Rattle.og_fabric.specs.Sides.{Each, times, Place, in_queue, in_taken, Sides, sent_in, Fits, IsReadyFor, IsMetBy, IsKept}
 use Rattle.og_fabric.specs.Sides.Place.{Nowhere, Queue, Hand, Taken}
-use Rattle.og_fabric.specs.Scheme.{IsRunOf, IsMet, HasRoom, IsReady, takes}
+use Rattle.og_fabric.specs.Scheme.{IsRunOf, HasRoom, IsReady, takes}
 use Rattle.og_fabric.proofs.Lists.{each_map, get_more, put_all, put_here}
 use Rattle.og_fabric.proofs.Sorting.{sorted, sorted_is, length_sorted}
 

@@ -1,5 +1,5 @@
 -- No more messages are in flight than were paid for.
-use Rattle.std.proofs.Common.{◌≡◌, ℕ, zero, suc, ◌+◌, ◌-◌, ◌*◌, ◌<◌, ◌≤◌, Bool, true, false, cond, nat_eq, nat_lt, arith, refl, sym, subst, List, [], ◌∷◌, length, slice_get, slice_set, Option, None, Some, ap}
+use Rattle.std.proofs.Common.{◌≡◌, ℕ, zero, suc, ◌+◌, ◌-◌, ◌*◌, ◌<◌, ◌≤◌, Bool, true, false, cond, nat_eq, nat_lt, arith, refl, sym, List, [], ◌∷◌, length, slice_get, slice_set, Option, None, Some, ap}
 use Rattle.std.proofs.Math.Path.{◌∙◌}
 use Rattle.std.proofs.lemmas.Bool.Decides.{nat_tests}
 use Rattle.og_runs.specs.declared.MsgId.{MsgId}
@@ -8,7 +8,7 @@ use Rattle.og_runs.specs.declared.Choice.TheVariants.{Act, Take}
 use Rattle.og_runs.specs.declared.Msg.{Msg}
 use Rattle.og_runs.specs.declared.Event.{Event}
 use Rattle.og_runs.specs.declared.Seat.{Seat}
-use Rattle.og_runs.specs.Runs.{Rules, same_id}
+use Rattle.og_runs.specs.Runs.{same_id}
 use Rattle.og_runs.specs.World.{World, WorldRun, world_step, world_take, world_move, world_move_with, find, without, precedes, placed}
 use Rattle.og_fabric.specs.Scheme.{HasRoom, IsReady}
 use Rattle.og_purses.specs.declared.Purse.{Purse}

@@ -1,5 +1,5 @@
 -- The command from its words to its answer, a run in threads among them.
-use Rattle.std.specs.Prelude.{◌≡◌, ℕ, ◌⊎◌, List, Option, Some, IfSome}
+use Rattle.std.specs.Prelude.{◌≡◌, ℕ, ◌⊎◌, Option, Some, IfSome}
 use Rattle.og_base.specs.declared.Settings.{Settings}
 use Rattle.og_base.specs.Settings.{settings_seen}
 use Rattle.og_io.specs.Outside.{ShelfState, SinkState, Files, IsAsBefore}

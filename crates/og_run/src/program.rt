@@ -1,4 +1,8 @@
-//! The whole program but for the system's files and streams: around it `main` only makes these.
+//! The whole program, around which each `main` is one line.
+//!
+//! It hands the words of the command line, the files of the system and its standard streams to the
+//! command, and ends with the command's status. What a file holds and what standard output shows is
+//! trusted here.
 
 ghost use Rattle.std.specs.Prelude.{◌≡◌, drop};
 ghost use Rattle.og_run.specs.Command.{EndsWithStatus};
@@ -6,13 +10,35 @@ ghost use Rattle.og_words.specs.Words.{job_of};
 ghost use Rattle.og_io.specs.Outside.{texts};
 
 use crate::top::origin;
-use og_actors::Gate;
-use og_cli::program::after_name;
-pub use og_cli::program::{NO_WORDS, arguments};
+use og_actors::{Gate, NoGate};
+use og_io::real::{FileShelf, StreamSink};
 use og_io::{Shelf, Sink};
 use std::alloc::Global;
+use std::env;
 use std::sync::Wait;
 use std::thread::Threads;
+
+/// The status where the system doesn't give the program's words.
+pub const NO_WORDS: u8 = 15;
+
+/// The program over the system's files and streams, from its arguments to its status.
+pub fn run_program(rt: &HostRuntime) -> u8 {
+    let Some(arguments) = arguments(rt) else {
+        return NO_WORDS;
+    };
+    let mut shelf = FileShelf::make(rt, rt.alloc());
+    let mut out = StreamSink::make(rt.stdout());
+    let mut err = StreamSink::make(rt.stderr());
+    run_words(
+        rt,
+        rt.alloc(),
+        &arguments,
+        &mut shelf,
+        &mut out,
+        &mut err,
+        &NoGate,
+    )
+}
 
 /// Does what the arguments after the program's name ask for. The status is that of the answer with
 /// which the command ends.
@@ -28,4 +54,19 @@ pub fn run_words<R: Threads + Wait + Sync, F: Shelf, K: Sink, E: Sink, G: Gate +
     ensures { EndsWithStatus (job_of (drop 1 (texts arguments.now))) (F.seen shelf.old) (F.seen shelf.new) (K.seen out.old) (K.seen out.new) (E.seen err.old) (E.seen err.new) result }
 {
     origin(rt, alloc, after_name(arguments), shelf, out, err, gate).status()
+}
+
+/// The arguments of the program; None where the system doesn't give them.
+fn arguments(rt: &HostRuntime) -> Option<Vec<String>> {
+    env::args(rt).ok()?.collect(rt.alloc()).ok()
+}
+
+/// The words: the arguments after the program's name, which is the first of them.
+fn after_name(arguments: &[String]) -> &[String]
+    ensures { texts result.now ≡ drop 1 (texts arguments.now) }
+{
+    match arguments {
+        [_, words @ ..] => words,
+        [] => &[],
+    }
 }

@@ -1,21 +1,17 @@
 -- What the calls of a node and of the mover give, in the words of the machine.
-use Rattle.std.proofs.Common.{◌≡◌, ◌∙◌, ℕ, Bool, true, false, refl, sym, ap, Option, None, Some, List, [], ◌++◌}
+use Rattle.std.proofs.Common.{◌≡◌, ◌∙◌, Bool, refl, sym, ap, Option, None, Some}
 use Rattle.std.specs.Prelude.{Result, Ok, Err, not, is_none, is_some}
 use Rattle.std.specs.Result.{is_ok}
 use Rattle.og_base.specs.declared.Cause.{Cause}
 use Rattle.og_base.specs.declared.NotEnabled.{NotEnabled}
-use Rattle.og_runs.specs.declared.Letter.{Letter}
-use Rattle.og_runs.specs.declared.Msg.{Msg}
 use Rattle.og_runs.specs.Runs.{Outcome}
 use Rattle.og_msg.specs.declared.Kind.{Kind}
 use Rattle.og_msg.specs.declared.Note.{Note}
 use Rattle.og_image.specs.Image.{ImageState}
-use Rattle.og_processor.specs.State.{ProcessorState}
 use Rattle.og_processor.specs.Act.{may_act}
 use Rattle.og_node.specs.Kept.{KeptNode, node_of}
-use Rattle.og_node.specs.Node.{NodeState, act_of as node_act, take_of as node_take}
-use Rattle.og_mover.specs.Table.{MoverState, Done, act_of as mover_act, take_of as mover_take, has_act}
-use Rattle.og_machine.specs.Machine.{Setup, ActorState, Node, Mover, by_node, by_mover, acting, taking, can_act, mover_may, where_enabled, act_of, has_stopped}
+use Rattle.og_node.specs.Node.{NodeState}
+use Rattle.og_machine.specs.Machine.{Setup, ActorState, Node, acting, can_act, where_enabled, act_of, has_stopped}
 use Rattle.og_engine.specs.Marks.{is_running_by}
 use Rattle.og_engine.proofs.Bits.{runs_by}
 use Rattle.og_actors.specs.Actors.{is_there}

@@ -1,15 +1,14 @@
 -- What holds in every run of the machine, as the fabric and the calls of its actors ask it.
-use Rattle.std.proofs.Common.{◌≡◌, ◌∙◌, ℕ, ◌+◌, ◌*◌, ◌<◌, ◌≤◌, ◌^◌, Bool, true, false, arith, refl, sym, ap, subst, Option, None, Some, List, length}
-use Rattle.std.specs.Prelude.{slice_get, Result, Ok, Err, IsTrue, if◌then◌else◌}
+use Rattle.std.proofs.Common.{◌≡◌, ◌∙◌, ℕ, ◌*◌, ◌<◌, ◌≤◌, ◌^◌, Bool, true, false, arith, refl, sym, ap, subst, Option, None, Some, List, length}
+use Rattle.std.specs.Prelude.{slice_get, Result, Ok, Err, if◌then◌else◌}
 use Rattle.og_base.specs.declared.NotEnabled.{NotEnabled}
 use Rattle.og_runs.specs.declared.Choice.{Choice}
 use Rattle.og_runs.specs.declared.Event.{Event}
 use Rattle.og_runs.specs.declared.Letter.{Letter}
 use Rattle.og_runs.specs.declared.Msg.{Msg}
-use Rattle.og_runs.specs.declared.MsgId.{MsgId}
 use Rattle.og_runs.specs.declared.Seat.{Seat}
 use Rattle.og_runs.specs.Runs.{Outcome}
-use Rattle.og_runs.specs.World.{WorldRun, find}
+use Rattle.og_runs.specs.World.{WorldRun}
 use Rattle.og_runs.specs.Laws.{ClocksWithin}
 use Rattle.og_runs.proofs.Stated.{clocks_within}
 use Rattle.og_msg.specs.declared.Kind.{Kind}
@@ -17,10 +16,10 @@ use Rattle.og_msg.specs.declared.Note.{Note}
 use Rattle.og_image.specs.Image.{ImageState}
 use Rattle.og_processor.specs.Act.{may_act}
 use Rattle.og_processor.specs.Sound.{IsSound}
-use Rattle.og_node.specs.Kept.{KeptNode, node_of}
+use Rattle.og_node.specs.Kept.{node_of}
 use Rattle.og_node.proofs.Rows.{row_told}
-use Rattle.og_mover.specs.Table.{has_act, has_table_row}
-use Rattle.og_machine.specs.Machine.{Setup, ActorState, Machine, Gives, rules, act_of, take_of, acting, taking, can_act, mover_may, where_enabled, has_row}
+use Rattle.og_mover.specs.Table.{has_act}
+use Rattle.og_machine.specs.Machine.{Setup, ActorState, Machine, rules, act_of, take_of, acting, taking, can_act, mover_may, where_enabled, has_row}
 use Rattle.og_refine.specs.Machines.{IsRunnable}
 use Rattle.og_refine.specs.Laws.{RunsTo}
 use Rattle.og_refine.proofs.Lawful.{messages_rows, enough_room}

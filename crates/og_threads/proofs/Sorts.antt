@@ -1,5 +1,5 @@
 -- Sorted events are as many as those that were sorted.
-use Rattle.std.proofs.Common.{◌≡◌, ◌∙◌, ℕ, suc, ◌+◌, Bool, true, false, cond, nat_eq, arith, refl, sym, ap, subst, List, [], ◌∷◌, length}
+use Rattle.std.proofs.Common.{◌≡◌, ◌∙◌, ℕ, suc, Bool, true, false, cond, arith, refl, sym, ap, List, [], ◌∷◌, length}
 use Rattle.std.specs.List.{filter}
 use Rattle.std.proofs.lemmas.Bool.Decides.{nat_tests}
 use Rattle.og_runs.specs.declared.Event.{Event}

@@ -1,14 +1,10 @@
 -- From what actors of any protocol give to a run of the machine.
-use Rattle.std.proofs.Common.{◌≡◌, ◌∙◌, ℕ, zero, suc, ◌+◌, ◌*◌, ◌<◌, ◌≤◌, ◌^◌, Bool, true, false, arith, refl, sym, ap, subst, List, length}
+use Rattle.std.proofs.Common.{◌≡◌, ℕ, zero, suc, ◌+◌, ◌*◌, ◌<◌, ◌≤◌, ◌^◌, arith, refl, sym, ap, subst, List, length}
 use Rattle.std.specs.Prelude.{Result, Ok, Err, IfOk}
-use Rattle.std.specs.List.{list_all}
 use Rattle.og_base.specs.declared.Settings.{Settings}
 use Rattle.og_runs.specs.declared.Event.{Event}
 use Rattle.og_runs.specs.declared.Msg.{Msg}
-use Rattle.og_runs.specs.declared.MsgId.{MsgId}
-use Rattle.og_runs.specs.declared.Seat.{Seat}
-use Rattle.og_runs.specs.Runs.{choices, IsSorted}
-use Rattle.og_runs.specs.World.{WorldRun, find}
+use Rattle.og_runs.specs.Runs.{IsSorted}
 use Rattle.og_msg.specs.declared.Kind.{Kind}
 use Rattle.og_msg.specs.declared.Note.{Note}
 use Rattle.og_elf.specs.Segment.{IsLoadable}
@@ -16,7 +12,7 @@ use Rattle.og_image.specs.Image.{ImageState}
 use Rattle.og_image.specs.Layout.{LayoutState, layout_of, pages_of}
 use Rattle.og_pager.specs.PageTable.{Suits}
 use Rattle.og_pager.specs.Laws.{LayoutSuits}
-use Rattle.og_machine.specs.Machine.{Setup, setup_of, ActorState, Machine, rules, start_machine, has_stopped, is_stopped}
+use Rattle.og_machine.specs.Machine.{Setup, setup_of, Machine, rules, start_machine, has_stopped, is_stopped}
 use Rattle.og_refine.specs.Machines.{IsRunnable}
 use Rattle.og_actors.specs.declared.rounds.Rounds.{Rounds}
 use Rattle.og_actors.specs.declared.rounds.Rounds.TheVariants.{Stopped, Spent, Memory}

@@ -2,7 +2,7 @@
 //! at its limit.
 #![tactic(auto)]
 
-use og_cli::program::run_program;
+use og_run::program::run_program;
 use std::process::ExitCode;
 
 fn main(rt: HostRuntime) -> ExitCode {

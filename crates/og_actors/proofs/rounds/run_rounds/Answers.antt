@@ -1,7 +1,7 @@
-use Rattle.std.proofs.Common.{rules, ◌≡◌, ◌*◌, ◌∙◌, arith, sym, subst, Some}
-use Rattle.og_actors.specs.Rounds.{all_seen, Standing, all_whole, all_stopped, made_by, idle_by}
+use Rattle.std.proofs.Common.{rules, ◌*◌, ◌∙◌, arith, sym, Some}
+use Rattle.og_actors.specs.Rounds.{all_seen}
 use Rattle.og_actors.proofs.Counting.{go_keep, go_more, all_tables, all_turns, all_begin, sums_fit, ended, stands, spent}
-use Rattle.og_actors.proofs.Seen.{length_seen, whole_seen, stopped_seen, made_seen, idle_seen, each_kept, round_seen, standing_seen, fits_seen, grown_seen, ended_at_once, spent_at_once}
+use Rattle.og_actors.proofs.Seen.{made_seen, idle_seen, each_kept, round_seen, standing_seen, fits_seen, grown_seen, ended_at_once, spent_at_once}
 use Rattle.og_actors.proofs.rounds.run_rounds.Goals as goal
 
 pub events_of-events-requires : goal.events_of-events-requires

@@ -1,11 +1,11 @@
-use Rattle.std.proofs.Common.{◌≡◌, ℕ, List, Option, Some, Result, Err, inr, subst, sym, ap, ◌∙◌}
+use Rattle.std.proofs.Common.{◌≡◌, ℕ, List, Option, Result, Err, inr, subst, sym, ap, ◌∙◌}
 use Rattle.og_cli.specs.declared.exit.Exit.{Exit}
 use Rattle.og_words.specs.declared.WordsFault.{WordsFault}
 use Rattle.og_words.specs.declared.WordsFault.TheVariants as words
 use Rattle.og_io.specs.Outside.{ShelfState, SinkState, texts}
-use Rattle.og_words.specs.Words.{JobState, job_of, job_seen}
-use Rattle.og_cli.specs.Exit.{FileNames, IsReported, error_line, refused_of}
-use Rattle.og_cli.specs.Command.{CommandEnds, EndsUnhindered, no_names, names_of}
+use Rattle.og_words.specs.Words.{JobState, job_of}
+use Rattle.og_cli.specs.Exit.{FileNames, IsReported, error_line}
+use Rattle.og_cli.specs.Command.{CommandEnds, no_names, names_of}
 use Rattle.og_cli.proofs.Refused.{refused_ends, refused_line}
 use Rattle.og_cli.proofs.Unhindered.{ends_unhindered}
 use Rattle.og_cli.proofs.top.origin_alone.Goals as goal
