@@ -1,4 +1,3 @@
-pub mod Order
 pub mod Unique
 pub mod Numbers
 pub mod Lengths

@@ -3,6 +3,5 @@ mod Going
 mod Begun
 mod Drawing
 mod Draining
-mod Order
 mod One
 mod Finished
