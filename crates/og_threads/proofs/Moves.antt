@@ -17,7 +17,7 @@ use Rattle.og_engine.proofs.Bits.{runs_by}
 use Rattle.og_actors.specs.Actors.{is_there}
 use Rattle.og_threads.specs.declared.player.Player.{Player}
 use Rattle.og_threads.specs.declared.player.Player.TheVariants as player
-use Rattle.og_threads.specs.Threads.{actor_of, outcome}
+use Rattle.og_threads.specs.Threads.{actor_of}
 
 -- ------------------------------------------------------------ whether an actor may move
 

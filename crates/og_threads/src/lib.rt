@@ -105,3 +105,6 @@ fn run_of<M: Machines + Send + Sync, G: Gate + Sync, R: Threads + Wait + Sync>(
         turns,
     )
 }
+
+#[cfg(test)]
+mod tests;
