@@ -26,7 +26,7 @@ use Rattle.og_headline.specs.Headline.{IsPrinted}
 use Rattle.og_headline.proofs.Sorted.{printed}
 use Rattle.og_finish.specs.Finish.{IsThreadRun, drawn_after, drain_of_all, drained_after, finished}
 use Rattle.og_finish.specs.Parts.{Adds, IsFinished}
-use Rattle.og_finish.proofs.One.{one_end}
+use Rattle.og_headline.proofs.OneRun.{one_run}
 use Rattle.og_finish.proofs.Made.{Leads, made_leads, running_unquiet, drawn_full}
 
 -- ---- all parts
@@ -153,7 +153,7 @@ first setup a = first_actor setup a (slice_get (start_machine setup).seats a)
 sorted_end : (setup : Setup) (given : List Choice) (w end : Machine) (events sorted : List (Event Note)) → RunsTo setup given w events → IsSorted events sorted → RunsTo setup (choices sorted) end sorted → end ≡ w
 sorted_end setup given w end events sorted run sort again =
     let r = sorted_run (rules setup) given (start_machine setup) w (start (first setup)) events sorted (start_shows (first setup) (start_machine setup) (first_seats setup)) (start_sound (first setup)) run sort in
-    one_end setup (choices sorted) (start_machine setup) end r.0 sorted sorted again r.1 ∙ one_machine r.0 w r.2 r.3
+    (one_run setup (choices sorted) (start_machine setup) end r.0 sorted sorted again r.1).0 ∙ one_machine r.0 w r.2 r.3
 
 pub thread_run : (setup : Setup) (most : ℕ) (merged : List (Event Note)) (w : Machine) (events sorted : List (Event Note)) → IsRunnable setup → length merged ≤ most → IsFinished setup most merged w events → IsPermutation events sorted → IsSorted events sorted
     → IsThreadRun setup most merged sorted (is_quiet w)
