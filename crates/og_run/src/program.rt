@@ -15,28 +15,30 @@ use og_io::real::{FileShelf, StreamSink};
 use og_io::{Shelf, Sink};
 use std::alloc::Global;
 use std::env;
+use std::io::Write;
+use std::rt::Files;
 use std::sync::Wait;
 use std::thread::Threads;
 
 /// The status where the system doesn't give the program's words.
 pub const NO_WORDS: u8 = 15;
 
-/// The program over the system's files and streams, from its arguments to its status.
-pub fn run_program(rt: &HostRuntime) -> u8 {
-    let Some(arguments) = arguments(rt) else {
+/// The program over the system's files and these streams, from its arguments to its status.
+pub fn run_program<R: Files + Threads + Wait + Sync, O: Write + Drop, E: Write + Drop>(
+    rt: &R,
+    alloc: Global,
+    arguments: Option<Vec<String>>,
+    stdout: O,
+    stderr: E,
+) -> u8 {
+    let Some(arguments) = arguments else {
         return NO_WORDS;
     };
-    let mut shelf = FileShelf::make(rt, rt.alloc());
-    let mut out = StreamSink::make(rt.stdout());
-    let mut err = StreamSink::make(rt.stderr());
+    let mut shelf = FileShelf::make(rt, alloc);
+    let mut out = StreamSink::make(stdout);
+    let mut err = StreamSink::make(stderr);
     run_words(
-        rt,
-        rt.alloc(),
-        &arguments,
-        &mut shelf,
-        &mut out,
-        &mut err,
-        &NoGate,
+        rt, alloc, &arguments, &mut shelf, &mut out, &mut err, &NoGate,
     )
 }
 
@@ -57,7 +59,7 @@ pub fn run_words<R: Threads + Wait + Sync, F: Shelf, K: Sink, E: Sink, G: Gate +
 }
 
 /// The arguments of the program; None where the system doesn't give them.
-fn arguments(rt: &HostRuntime) -> Option<Vec<String>> {
+pub fn arguments(rt: &HostRuntime) -> Option<Vec<String>> {
     env::args(rt).ok()?.collect(rt.alloc()).ok()
 }
 

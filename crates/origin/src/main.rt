@@ -1,9 +1,9 @@
 //! The program `origin`.
 #![tactic(auto)]
 
-use og_run::program::run_program;
+use og_run::program::{arguments, run_program};
 use std::process::ExitCode;
 
 fn main(rt: HostRuntime) -> ExitCode {
-    ExitCode::from(run_program(&rt))
+    ExitCode::from(run_program(&rt, rt.alloc(), arguments(&rt), rt.stdout(), rt.stderr()))
 }
