@@ -10,7 +10,7 @@ use og_actors::rounds::Rounds;
 use og_actors::{NoGate, Turn};
 use og_elf::read_raw;
 use og_fabric::{Fabric, Gathered, Seat};
-use og_runs::{Choice, Log, MsgId};
+use og_runs::{Choice, MsgId};
 use std::test::Fail;
 
 /// Settings that suit a small program on so many nodes.
@@ -112,22 +112,14 @@ fn turn<M: Machines, R: Wait>(rt: &R, actor: &mut Seated<'_, M>, fabric: &Queue<
     actor.turn(rt, fabric)
 }
 
-/// What the turns by hand answer, the logs, and how many messages are left.
-#[derive(Drop)]
-struct ByHand {
-    turns: [Turn; 5],
-    logs: Vec<Log<Note>>,
-    left: usize,
-}
-
-/// Three turns of the node and two of the mover, without threads.
+/// Three turns of the node and two of the mover, without threads: what each answers, and what is gathered after them.
 fn play<M: Machines, R: Wait>(
     rt: &R,
     alloc: Global,
     image: &Image,
     layout: &Layout,
     settings: &Settings,
-) -> Result<ByHand, NoMemory>
+) -> Result<([Turn; 5], Gathered<Kind, Note>), NoMemory>
     requires plays { Plays M.setup M.most image.now }
     requires setup { M.setup ≡ record { image = image.now; layout = layout.now; settings = settings.now } }
     requires one { settings.now.nodes ≡ 1 }
@@ -154,12 +146,7 @@ fn play<M: Machines, R: Wait>(
     let mut posted = Vec::new(alloc);
     posted.push(node.post(&fabric))?;
     posted.push(mover.post(&fabric))?;
-    let Gathered { logs, left } = fabric.gather(rt, alloc, posted)?;
-    Ok(ByHand {
-        turns,
-        logs,
-        left: left.len(),
-    })
+    Ok((turns, fabric.gather(rt, alloc, posted)?))
 }
 
 // The node sends its walk in its third act; the mover takes it and answers, and then puts its answer back.
@@ -176,9 +163,15 @@ fn a_walk_by_hand(rt: HostRuntime) -> Result<(), Fail> {
         return Err(Fail::from("frames"));
     };
     image.stays_loadable();
-    let hand = play::<Brand, HostRuntime>(&rt, rt.alloc(), &image, &layout, &settings)?;
+    let (turns, Gathered { logs, left }) = play::<Brand, HostRuntime>(
+        &rt,
+        rt.alloc(),
+        &image,
+        &layout,
+        &settings,
+    )?;
     assert_eq!(rt;
-        hand.turns,
+        turns,
         [
             Turn::Event,
             Turn::Event,
@@ -187,8 +180,8 @@ fn a_walk_by_hand(rt: HostRuntime) -> Result<(), Fail> {
             Turn::Idle
         ]
     );
-    assert_eq!(rt; (hand.logs.len(), hand.left), (2, 1));
-    let log = &hand.logs[1];
+    assert_eq!(rt; (logs.len(), left.len()), (2, 1));
+    let log = &logs[1];
     assert_eq!(rt; log.events.len(), 1);
     let first = MsgId { sender: 0, seq: 0 };
     assert_eq!(rt; log.events[0].choice, Choice::Take(1, first));
