@@ -70,7 +70,7 @@ is_ok_mover true = refl
 is_ok_mover false = refl
 
 -- each message in flight is to a node or the mover
-message_inside : (image : ImageState) (kept : KeptMachine) (id : MsgId) (m : Msg Kind) → IsMade image kept → find id kept.flight.messages ≡ Some m → m.to < length kept.nodes + 1
+pub message_inside : (image : ImageState) (kept : KeptMachine) (id : MsgId) (m : Msg Kind) → IsMade image kept → find id kept.flight.messages ≡ Some m → m.to < length kept.nodes + 1
 unfolding machine_of
 message_inside image kept id m made found =
     let r = messages_rows (setup_in image kept) made.0 (machine_of kept) made.1 id m made.2.runnable made.2.run found in
@@ -326,8 +326,3 @@ is_own image kept a n made le next inside = at (nat_lt a kept.settings.nodes) re
         let same : length kept.nodes ≡ a = omega arith in
         let all : length (enabled_of (setup_in image kept) (machine_of kept)) ≡ rank (setup_in image kept) 0 (machine_of kept).seats kept.flight.messages (suc (length kept.nodes)) = all_choices image kept made in
         subst (λ (k : ℕ). n < k) (all ∙ ap (λ (b : ℕ). rank (setup_in image kept) 0 (machine_of kept).seats kept.flight.messages (suc b)) same ∙ more) inside
-
--- no choice stands before the first actor's
-pub none_before : (kept : KeptMachine) → choices_below kept 0 ≡ 0
-unfolding marks_below
-none_before kept = let none : length (messages_below 0 kept.flight.messages) ≡ 0 = none_below_zero kept.flight.messages in omega arith

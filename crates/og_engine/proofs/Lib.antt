@@ -6,5 +6,6 @@ pub mod Acts
 pub mod Takes
 pub mod Ranks
 pub mod Counts
+pub mod Placed
 pub mod Drains
 pub mod Lines

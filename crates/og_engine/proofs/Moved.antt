@@ -14,10 +14,10 @@ use Rattle.og_runs.specs.declared.MsgId.{MsgId}
 use Rattle.og_runs.specs.declared.Seat.{Seat}
 use Rattle.og_runs.specs.declared.Stamp.{Stamp}
 use Rattle.og_runs.specs.Runs.{Outcome, posted, choice_of, clock_after, event_of, same_id}
-use Rattle.og_runs.specs.World.{World, world_step, world_after, seat_after, flight_after, find, placed, placed_all}
+use Rattle.og_runs.specs.World.{World, world_step, world_after, seat_after, flight_after, find, placed, placed_all, InPlace}
 use Rattle.og_runs.specs.Laws.{RunsFrom, NamesStay, ClocksWithin}
 use Rattle.og_runs.proofs.Placed.{find_without}
-use Rattle.og_runs.proofs.Stated.{names_stay, clocks_within}
+use Rattle.og_runs.proofs.Stated.{names_stay, clocks_within, shown_from}
 use Rattle.og_runs.proofs.Whole.{world_more}
 use Rattle.og_flight.specs.Flight.{Flying, for_actor, found_for}
 use Rattle.og_flight.proofs.Posting.{placed_length}
@@ -52,6 +52,11 @@ message_low image kept id message made found = subst (λ (n : ℕ). message.stam
 
 pub names : (image : ImageState) (kept : KeptMachine) (made : IsMade image kept) → NamesStay (machine_of kept) (machine_of kept)
 names image kept made = names_stay _ _ _ _ _ _ [] (machine_of kept) [] (from_start image kept made) (refl, refl)
+
+-- the messages in flight stand by receiver, then sender, then number
+pub in_place : (image : ImageState) (kept : KeptMachine) (made : IsMade image kept) → InPlace kept.flight.messages
+unfolding machine_of
+in_place image kept made = (shown_from _ _ _ _ _ _ (from_start image kept made)).shows.in_place
 
 -- an actor's numbers from its next one on are new
 new_name : (image : ImageState) (kept : KeptMachine) (a : ℕ) (x : Seat ActorState) (k : ℕ) → IsMade image kept → slice_get (machine_of kept).seats a ≡ Some x → x.next ≤ k → find (record { sender = a; seq = k }) (machine_of kept).flight ≡ None

@@ -12,3 +12,7 @@ may_act_at kept actor = if nat_lt actor kept.settings.nodes then is_marked kept.
 -- an act for each node below this actor that may act, and a take for each message to an actor below it
 abbrev pub choices_below : KeptMachine → ℕ → ℕ
 choices_below kept actor = marks_below kept.ready actor + length (messages_below actor kept.flight.messages)
+
+-- the acts that stand before the takes of an actor, the mover's left out: those of the nodes up to it
+abbrev pub acts_to : KeptMachine → ℕ → ℕ
+acts_to kept actor = marks_below kept.ready (if nat_lt actor kept.settings.nodes then actor + 1 else kept.settings.nodes)

@@ -1,15 +1,17 @@
 //! What the machine may do next: whether it has stopped and is quiet, and the enabled choices in their order.
 
-ghost use Rattle.std.specs.Prelude.{◌≡◌, ℕ, ◌+◌, ◌<◌, ◌≤◌, ◌^◌, true, length, slice_get, Some};
+ghost use Rattle.std.specs.Prelude.{◌≡◌, ◌≢◌, ℕ, ◌+◌, ◌-◌, ◌<◌, ◌≤◌, ◌^◌, true, false, length, slice_get, Some};
+ghost use Rattle.og_runs.specs.declared.Msg.{Msg};
+ghost use Rattle.og_msg.specs.declared.Kind.{Kind};
 ghost use Rattle.std.specs.List.{list_all};
 ghost use Rattle.og_victim.specs.Slot.{is_free_slot};
 ghost use Rattle.og_machine.specs.Machine.{is_stopped, is_quiet, is_at_rest};
 ghost use Rattle.og_machine.specs.Choices.{enabled_of};
 ghost use Rattle.og_engine.specs.Kept.{machine_of, setup_in, IsMade, WasMade};
-ghost use Rattle.og_engine.specs.Order.{may_act_at, choices_below as count_of_choices_below};
+ghost use Rattle.og_engine.specs.Order.{may_act_at, acts_to, choices_below as count_of_choices_below};
 
 use crate::Machine;
-use crate::marks::{count_below, has_mark};
+use crate::marks::{count_below, has_mark, nth_mark};
 use og_base::{ActorId, Choice};
 use og_image::Image;
 use og_node::Node;
@@ -92,23 +94,64 @@ impl Machine {
         count_below(self.ready, actor) as usize + self.flight.below(u16::from(actor))
     }
 
-    /// The actor of the enabled choice with this number: the last one below which there are no more choices than that.
+    /// The actor of the enabled choice with this number: the last one below which there are no more choices than that. Either a
+    /// message to it stands at that place, or the choice is an act, and acts are counted by their marks.
     fn actor_at(&self, at: usize) -> ActorId
+        requires made { WasMade self.now }
         ensures low { count_of_choices_below self.now result ≤ at }
         ensures high { result < self.now.settings.nodes → at < count_of_choices_below self.now (result + 1) }
         ensures actor { result ≤ self.now.settings.nodes }
     {
+        let takes = self.takes_before(at);
+        if self.stands_at(takes, at) {
+            return self.flight.select(takes).to;
+        }
+        nth_mark(self.ready, self.settings.nodes, at - takes)
+    }
+
+    /// How many messages in flight stand before this place among the choices.
+    fn takes_before(&self, at: usize) -> usize
+        requires made { WasMade self.now }
+        ensures few { result ≤ length self.now.flight.messages }
+        ensures before { (m : Msg Kind) → 0 < result → slice_get self.now.flight.messages (result - 1) ≡ Some m → result - 1 + acts_to self.now m.to < at }
+        ensures behind { (m : Msg Kind) → slice_get self.now.flight.messages result ≡ Some m → at ≤ result + acts_to self.now m.to }
+    {
         let mut low = 0;
-        let mut high = self.settings.nodes + 1;
-        while high - low > 1 {
+        let mut high = self.flight.len();
+        while low < high {
             let middle = low + (high - low) / 2;
-            if self.choices_below(middle) <= at {
-                low = middle;
+            if self.place(middle) < at {
+                low = middle + 1;
             } else {
                 high = middle;
             }
         }
         low
+    }
+
+    /// Whether there is a k-th message in flight, and its take stands at this place.
+    fn stands_at(&self, k: usize, at: usize) -> bool
+        requires made { WasMade self.now }
+        ensures there { result ≡ true → k < length self.now.flight.messages }
+        ensures here { (m : Msg Kind) → result ≡ true → slice_get self.now.flight.messages k ≡ Some m → k + acts_to self.now m.to ≡ at }
+        ensures elsewhere { (m : Msg Kind) → result ≡ false → slice_get self.now.flight.messages k ≡ Some m → k + acts_to self.now m.to ≢ at }
+    {
+        if k >= self.flight.len() {
+            return false;
+        }
+        self.place(k) == at
+    }
+
+    /// The place of the take of the k-th message in flight among the choices, the mover's act left out.
+    fn place(&self, k: usize) -> usize
+        requires made { WasMade self.now }
+        requires inside { k < length self.now.flight.messages }
+        ensures { (m : Msg Kind) → slice_get self.now.flight.messages k ≡ Some m → result ≡ k + acts_to self.now m.to }
+    {
+        let _in_flight = self.flight.len();
+        let to = self.flight.select(k).to;
+        let nodes = self.settings.nodes;
+        k + count_below(self.ready, if to < nodes { to + 1 } else { nodes }) as usize
     }
 }
 

@@ -1,6 +1,6 @@
 //! A mark for each node, in one word: which nodes may act, and which harts still run.
 
-ghost use Rattle.std.specs.Prelude.{◌≡◌, ℕ, ◌<◌, ◌≤◌, nat_eq, if◌then◌else◌};
+ghost use Rattle.std.specs.Prelude.{◌≡◌, ℕ, ◌+◌, ◌<◌, ◌≤◌, nat_eq, if◌then◌else◌};
 ghost use Rattle.og_engine.specs.Marks.{is_marked, marks_below};
 
 use og_base::{ActorId, NodeId};
@@ -34,4 +34,24 @@ pub(crate) fn count_below(marks: u128, actor: ActorId) -> u32
         return marks.count_ones();
     }
     (marks & ((1 << actor) - 1)).count_ones()
+}
+
+/// The node of the n-th mark, from 0 on; the number of nodes where fewer are marked.
+pub(crate) fn nth_mark(marks: u128, nodes: u8, n: usize) -> ActorId
+    requires { nodes ≤ 128 }
+    ensures low { marks_below marks result ≤ n }
+    ensures high { result < nodes → n < marks_below marks (result + 1) }
+    ensures within { result ≤ nodes }
+{
+    let mut low = 0;
+    let mut high = nodes + 1;
+    while high - low > 1 {
+        let middle = low + (high - low) / 2;
+        if count_below(marks, middle) as usize <= n {
+            low = middle;
+        } else {
+            high = middle;
+        }
+    }
+    low
 }
