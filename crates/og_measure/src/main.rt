@@ -2,8 +2,11 @@
 //! with its note, and prints how many bytes it has; `og_measure both EVENTS` reads it again, too, and prints how many
 //! choices and notes were read.
 //!
-//! Below stands the text of runs (`og_trace`). `bench/files` measures this program; it has no contract.
+//! Below stands the text of runs (`og_trace`). `bench/files` measures this program; of its text it has no contract.
 #![tactic(auto)]
+
+ghost use Rattle.std.specs.Prelude.{◌≡◌, OnOk, OnErr};
+ghost use Rattle.std.specs.Process.{exit_status};
 
 use og_base::{Choice, NoMemory, Settings, Stamp};
 use og_line::Access;
@@ -51,7 +54,11 @@ fn main(rt: HostRuntime) -> ExitCode {
     done(println!(rt; "bytes {bytes} choices {choices} notes {notes}"))
 }
 
-fn done(printed: io::Result<()>) -> ExitCode {
+/// The process ends with 0 exactly where its line was printed.
+fn done(printed: io::Result<()>) -> ExitCode
+    ensures printed { OnOk printed (exit_status result ≡ 0) }
+    ensures failed { OnErr printed (exit_status result ≡ 1) }
+{
     match printed {
         Ok(()) => ExitCode::SUCCESS,
         Err(_) => ExitCode::FAILURE,

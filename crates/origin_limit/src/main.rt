@@ -2,9 +2,19 @@
 //! at its limit.
 #![tactic(auto)]
 
+ghost use Rattle.std.specs.Prelude.{◌≡◌};
+ghost use Rattle.std.specs.Process.{exit_status};
+
 use og_run::program::{arguments, run_program};
 use std::process::ExitCode;
 
 fn main(rt: HostRuntime) -> ExitCode {
-    ExitCode::from(run_program(&rt, rt.alloc(), arguments(&rt), rt.stdout(), rt.stderr()))
+    exit(run_program(&rt, rt.alloc(), arguments(&rt), rt.stdout(), rt.stderr()))
+}
+
+/// The process ends with the command's status.
+fn exit(status: u8) -> ExitCode
+    ensures { exit_status result ≡ status }
+{
+    ExitCode::from(status)
 }

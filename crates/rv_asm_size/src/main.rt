@@ -1,8 +1,11 @@
 //! A long source, to be measured: `rv_asm_size INSTRUCTIONS` makes a source of so many branches, each
 //! with a label of its own that it goes to, assembles it, prints the words, and says how long all are.
 //!
-//! Below stands the assembler. `bench/assembler` measures this program; it has no contract.
+//! Below stands the assembler. `bench/assembler` measures this program; of what it measures it has no contract.
 #![tactic(auto)]
+
+ghost use Rattle.std.specs.Prelude.{◌≡◌, OnOk, OnErr};
+ghost use Rattle.std.specs.Process.{exit_status};
 
 use rv_asm::{NoMemory, SourceFault, assemble, print};
 use std::alloc::Global;
@@ -20,7 +23,15 @@ fn main(rt: HostRuntime) -> ExitCode {
         return ExitCode::FAILURE;
     };
     let (words, text) = lengths;
-    match println!(rt; "source {} words {words} text {text}", source.len()) {
+    done(println!(rt; "source {} words {words} text {text}", source.len()))
+}
+
+/// The process ends with 0 exactly where its line was printed.
+fn done(printed: io::Result<()>) -> ExitCode
+    ensures printed { OnOk printed (exit_status result ≡ 0) }
+    ensures failed { OnErr printed (exit_status result ≡ 1) }
+{
+    match printed {
         Ok(()) => ExitCode::SUCCESS,
         Err(_) => ExitCode::FAILURE,
     }
