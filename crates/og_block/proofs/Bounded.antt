@@ -1,5 +1,5 @@
 -- A reply names fewer acknowledgements than there are actors: each row keeps it, by itself.
-use Rattle.std.proofs.Common.{◌≡◌, ℕ, ◌+◌, ◌<◌, ◌≤◌, Bool, true, false, cond, nat_eq, arith, subst, List, [], ◌∷◌}
+use Rattle.std.proofs.Common.{◌≡◌, ℕ, ◌+◌, ◌<◌, ◌≤◌, Bool, true, cond, nat_eq, arith, subst, List, [], ◌∷◌}
 use Rattle.std.proofs.lemmas.Bool.Decides.{nat_tests}
 use Rattle.og_slots.proofs.Count.{count_less, count_most}
 use Rattle.og_block.specs.State.{Block, others, count, start, Sharing}

@@ -1,14 +1,11 @@
 -- Where an actor has something outstanding for a block, or a taken victim slot, something of the block can move.
-use Rattle.std.proofs.Common.{◌≡◌, ℕ, zero, suc, ◌+◌, ◌<◌, ◌≤◌, Bool, true, false, cond, nat_eq, arith, ◌≢◌, ◌⊎◌, inl, inr, refl, sym, subst}
-use Rattle.std.proofs.lemmas.Bool.{cases_Bool}
+use Rattle.std.proofs.Common.{◌≡◌, ℕ, zero, suc, ◌+◌, ◌<◌, ◌≤◌, Bool, true, false, cond, arith, ◌≢◌, inl, inr, refl}
 use Rattle.std.proofs.lemmas.Bool.Decides.{nat_tests}
-use Rattle.og_block.proofs.Replies.{full, few}
-use Rattle.og_block.proofs.Balance.{asked_holds}
-use Rattle.og_block.specs.State.{Want, Idle, Reading, Writing, Upgrading, Poisoning, Ask, NoAsk, Read, ReadExclusive, Upgrade, SharedReply, SpeculativeReply, ExclusiveReply, UpgradeReply, NegativeAck, PoisonError, PoisonRead, PoisonWait, PoisonReply, Response, NoResponse, Back, NoBack, WriteBack, WriteBackAck, WriteBackBusyAck, Victim, Free, Taken, Busy, Seen, Intervention, NoIntervention, Invalidation, NoInvalidation, Entry, Unowned, SharedBy, Exclusive, BusyShared, BusyExclusive, BusyPoison, PoisonBy, Revision, NoRevision, Block, count}
-use Rattle.og_block.specs.Rows.{has_intervention, has_response}
-use Rattle.og_block.specs.Views.{is_asked, is_holder, is_spent, awaits_shared, awaits_exclusive, awaits_poison, waits_shared, waits_exclusive, waits_poison, is_for, pending}
-use Rattle.og_block.specs.Invariant.{Invariant, Local, Home, Inside, Backs, Fits_back, Spent, Intervened, Intervened_by, Waits, Asks, Fits_ask, Rests, Counted}
-use Rattle.og_block.specs.Message.{Message, Asked, Answered, Returned, Revised, Intervened as OfIntervention, Invalidated, Stands, MayWait}
+use Rattle.og_block.proofs.Replies.{full}
+use Rattle.og_block.specs.State.{Want, Idle, Ask, NoAsk, Read, ReadExclusive, Upgrade, SharedReply, SpeculativeReply, ExclusiveReply, UpgradeReply, NegativeAck, PoisonError, PoisonRead, PoisonWait, PoisonReply, Response, NoResponse, Back, NoBack, Victim, Free, Intervention, NoIntervention, Invalidation, NoInvalidation, Entry, BusyShared, BusyExclusive, BusyPoison, Revision, NoRevision, Block, count}
+use Rattle.og_block.specs.Views.{is_asked, awaits_shared, awaits_exclusive, awaits_poison, waits_shared, waits_exclusive, waits_poison, is_for, pending}
+use Rattle.og_block.specs.Invariant.{Invariant, Local, Inside, Backs, Fits_back, Spent, Intervened, Waits, Asks, Fits_ask, Rests, Counted}
+use Rattle.og_block.specs.Message.{Asked, Returned, Revised, Intervened as OfIntervention, Invalidated}
 use Rattle.og_block.specs.Moves.{SomethingMoves, Moves}
 
 -- one that is counted

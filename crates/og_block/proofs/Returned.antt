@@ -1,10 +1,9 @@
 -- Where a block has come back early, each request that the home has granted and that is outstanding is a marked read.
-use Rattle.std.proofs.Common.{◌≡◌, ℕ, ◌<◌, Bool, true, false, arith, ◌⊎◌, refl}
-use Rattle.std.proofs.lemmas.Bool.Decides.{nat_tests}
-use Rattle.og_block.specs.State.{Copy, Want, Reading, Ask, SharedReply, SpeculativeReply, ExclusiveReply, UpgradeReply, Response, Back, Invalidation, Entry, BusyExclusive, Revision, Block}
-use Rattle.og_block.specs.Views.{is_holder, is_sharer, is_invalidate, trusts, trusts_at, owns, waits_shared, waits_exclusive, waits_poison, awaits_shared, awaits_exclusive, awaits_poison, grants}
+use Rattle.std.proofs.Common.{◌≡◌, ℕ, Bool, true, false, arith, ◌⊎◌}
+use Rattle.og_block.specs.State.{Copy, Want, Reading, Ask, Response, Back, Invalidation, BusyExclusive, Block}
+use Rattle.og_block.specs.Views.{is_holder, is_sharer, is_invalidate, trusts, trusts_at, owns, waits_shared, waits_exclusive}
 use Rattle.og_block.specs.Races.{is_granted}
-use Rattle.og_block.specs.Invariant.{Local, Asks, Fits_ask, Sent, Sent_by, Waits, Trusted, Owned}
+use Rattle.og_block.specs.Invariant.{Local, Fits_ask, Sent_by, Waits, Trusted, Owned}
 
 module _ {L : Type 0} where
   pub returned_marked : (n : ℕ) (f : L) (b : Block L) (o p q : ℕ) → Local n f b q → b.entry ≡ BusyExclusive o p true → is_granted (b.ask q) ≡ true → b.want q ≡ Reading true

@@ -1,6 +1,6 @@
 -- A row leaves every message that stands, but those in the slots from which it takes. So the messages in flight of a
 -- machine keep their places with one lemma for all rows.
-use Rattle.std.proofs.Common.{◌≡◌, ℕ, ◌<◌, Bool, true, false, arith, inl, inr}
+use Rattle.std.proofs.Common.{◌≡◌, ℕ, ◌<◌, Bool, false, arith, inl, inr}
 use Rattle.std.proofs.lemmas.Bool.{cases_Bool}
 use Rattle.og_block.specs.State.{Block}
 use Rattle.og_block.specs.Rows.{Row, guard, apply, actor_of}

@@ -1,5 +1,5 @@
 -- Something of a block can move: a message stands that doesn't only wait.
-use Rattle.std.specs.Prelude.{◌≡◌, ℕ, ◌<◌, ◌≢◌}
+use Rattle.std.specs.Prelude.{ℕ, ◌≢◌}
 use Rattle.og_block.specs.State.{Idle, Free, Block}
 use Rattle.og_block.specs.Message.{Message, Stands, MayWait}
 

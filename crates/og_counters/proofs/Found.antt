@@ -1,14 +1,12 @@
 -- What is read of the counters, and that counters stay counters.
-use Rattle.std.proofs.Common.{◌≡◌, ℕ, ◌+◌, ◌*◌, ◌<◌, ◌≤◌, Bool, false, cond, ◌&&◌, List, length, get_or, replicate, refl, sym, ◌∙◌, ap, ap₂, subst, arith, inl, inr}
+use Rattle.std.proofs.Common.{◌≡◌, ℕ, ◌+◌, ◌*◌, ◌<◌, ◌≤◌, Bool, false, cond, ◌&&◌, List, length, get_or, replicate, sym, ◌∙◌, ap, ap₂, subst, arith, inl, inr}
 use Rattle.std.proofs.Math.ListN.{set}
 use Rattle.std.proofs.lemmas.List.{get_or_read, get_or-set_same, get_or-set_other, get_or-replicate, get_or_past, length-set, length-replicate}
 use Rattle.std.proofs.lemmas.Bool.{cases_eq, cases_lt}
-use Rattle.std.proofs.lemmas.Nat.{mul-add-lt}
 use Rattle.std.specs.Prelude.{nat_le, nat_lt, slice_index, slice_index_or}
 use Rattle.std.proofs.Math.Path.{fun_ext}
-use Rattle.og_base.specs.declared.Settings.{Settings}
 use Rattle.og_counters.specs.declared.CountRules.{CountRules}
-use Rattle.og_counters.specs.Counts.{FrameCounts, CountersState, with_value, sum_of, no_counts, rules_of, new_counters}
+use Rattle.og_counters.specs.Counts.{CountersState, with_value, sum_of, no_counts}
 use Rattle.og_counters.specs.Kept.{KeptCounts, AreCounters, count_in, frame_in, counters_of}
 use Rattle.og_counters.proofs.Sums.{sum_of-same, sum_of-raised, sum_of-zeros, count-sum}
 use Rattle.og_counters.proofs.Changes.{count_in-inside, count_in-past, same_frame, written_counts, written_other_frame, zeroed, not_zeroed}

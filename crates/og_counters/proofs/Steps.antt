@@ -1,11 +1,10 @@
 -- What a count and a reset come to, step by step.
-use Rattle.std.proofs.Common.{◌≡◌, ℕ, ◌+◌, ◌<◌, ◌≤◌, Bool, true, false, cond, not, ◌&&◌, ◌||◌, Option, None, Some, is_some, refl, sym, ◌∙◌, ap, ap₂, subst, arith, inl, inr}
+use Rattle.std.proofs.Common.{◌≡◌, ℕ, ◌+◌, ◌<◌, ◌≤◌, Bool, true, false, cond, not, ◌&&◌, ◌||◌, None, Some, is_some, refl, sym, ◌∙◌, ap, ap₂, arith, inl, inr}
 use Rattle.std.proofs.Math.Path.{fun_ext}
 use Rattle.std.proofs.lemmas.Bool.{cases_eq, le-leb, lt-leb}
-use Rattle.std.specs.Prelude.{nat_le, nat_eq}
+use Rattle.std.specs.Prelude.{nat_le}
 use Rattle.og_base.specs.declared.Hot.{Hot}
-use Rattle.og_counters.specs.declared.CountRules.{CountRules}
-use Rattle.og_counters.specs.Counts.{FrameCounts, CountersState, with_value, with_frame, no_counts, counted, cleared, marked, worn, is_due, hot, notice_of, counts_after, count_step, reset_step, sum_of, most_of_others}
+use Rattle.og_counters.specs.Counts.{FrameCounts, CountersState, with_value, with_frame, counted, cleared, is_due, hot, notice_of, counts_after, count_step, reset_step, sum_of, most_of_others}
 use Rattle.og_counters.proofs.Sums.{value_here, value_there, sum_of-raised, most-raised}
 
 -- a frame that is changed twice

@@ -1,8 +1,7 @@
 -- How a home counts the requests of nodes for one of its frames, when it notices that a node uses the frame much more than
 -- the home does, and when the counts begin anew. p is the node whose request counts.
-use Rattle.std.specs.Prelude.{ℕ, zero, suc, ◌+◌, ◌||◌, ◌&&◌, Bool, false, true, not, nat_eq, nat_le, Option, Some, None, if◌then◌else◌}
+use Rattle.std.specs.Prelude.{ℕ, zero, suc, ◌+◌, ◌||◌, ◌&&◌, Bool, false, not, nat_eq, nat_le, Option, Some, None, if◌then◌else◌}
 use Rattle.std.proofs.Common.{max}
-use Rattle.og_base.specs.declared.Frame.{Frame}
 use Rattle.og_base.specs.declared.Hot.{Hot}
 use Rattle.og_base.specs.declared.Settings.{Settings}
 use Rattle.og_counters.specs.declared.CountRules.{CountRules}

@@ -1,13 +1,13 @@
 -- Marks: one that is set or cleared, how many there are, and what they say when one node has changed.
-use Rattle.std.proofs.Common.{◌≡◌, ◌≢◌, ◌∙◌, ℕ, zero, suc, ◌+◌, ◌*◌, ◌-◌, ◌^◌, ◌%◌, ◌<◌, ◌≤◌, Bool, true, false, cond, min, nat_eq, nat_lt, arith, refl, sym, ap, Option, None, Some, Ok, Err, Result, List, [], ◌∷◌, length}
+use Rattle.std.proofs.Common.{◌≡◌, ◌≢◌, ◌∙◌, ℕ, zero, suc, ◌+◌, ◌*◌, ◌-◌, ◌^◌, ◌/◌, ◌%◌, ◌<◌, ◌≤◌, Bool, true, false, cond, min, nat_eq, nat_lt, arith, refl, sym, ap, Option, None, Some, Ok, Err, Result, List, [], ◌∷◌, length}
 use Rattle.std.specs.Prelude.{slice_get, slice_set, bit_and, bit_or, count_ones, is_none, if◌then◌else◌}
 use Rattle.std.specs.Result.{is_ok}
 use Rattle.std.specs.Int.{bit_at, bit_not, w128}
 use lib.Count.{ones, ones_cat, ones-ones}
 use Rattle.std.proofs.Math.Nat.{mod-eq_of_lt, mod-lt}
-use Rattle.std.proofs.Math.Pow.{pow_pos}
+use Rattle.std.proofs.Math.Pow.{pow_pos, mod-mod-pow}
 use Rattle.std.proofs.lemmas.Bool.Decides.{nat_tests}
-use Rattle.std.proofs.lemmas.Nat.{and_mask, pow_below}
+use Rattle.std.proofs.lemmas.Nat.{and_mask, pow_below, mod-pow-add}
 use Rattle.std.proofs.lemmas.Nat.Bits.{bit_at-lt, bit_at_and, bit_at-zero, bit_at_above, bit_at_set_same, bit_at_set_other, bit_at_clear_same, bit_at_clear_other}
 use Rattle.og_base.specs.declared.Cause.{Cause}
 use Rattle.og_base.specs.declared.NotEnabled.{NotEnabled}
@@ -84,19 +84,29 @@ marks_below_is word (suc a) = at (nat_eq (bit_at word a) 1) refl (marks_below_is
         let all : count_ones (word % 2 ^ suc a) ≡ count_ones (word % 2 ^ a) = ap count_ones same in
         omega arith
 
--- all bits of a word
-pub marks_below_all : (word a : ℕ) → word < 2 ^ 128 → a ≡ 128 → count_ones word ≡ marks_below word a
-marks_below_all word a low all =
-    let whole : word % 2 ^ 128 ≡ word = mod-eq_of_lt low in
-    sym (ap (marks_below word) all ∙ marks_below_is word 128 ∙ ap count_ones whole)
-
--- the lowest bits of a word
-pub low_bits : (word a : ℕ) → a < 128 → bit_and word (1 * 2 ^ a % 2 ^ 128 - 1) ≡ word % 2 ^ a
-low_bits word a lt =
+-- the lowest bits of a word of so many bits
+pub low_bits : (word a width : ℕ) → a < width → bit_and word (1 * 2 ^ a % 2 ^ width - 1) ≡ word % 2 ^ a
+low_bits word a width lt =
     let one : 1 * 2 ^ a ≡ 2 ^ a = omega arith in
-    let small : 2 ^ a < 2 ^ 128 = pow_below a 128 lt in
-    let mask : 1 * 2 ^ a % 2 ^ 128 ≡ 2 ^ a = ap (λ n. n % 2 ^ 128) one ∙ mod-eq_of_lt small in
+    let small : 2 ^ a < 2 ^ width = pow_below a width lt in
+    let mask : 1 * 2 ^ a % 2 ^ width ≡ 2 ^ a = ap (λ n. n % 2 ^ width) one ∙ mod-eq_of_lt small in
     ap (λ n. bit_and word (n - 1)) mask ∙ and_mask word a
+
+-- the marks of the first 64 nodes are in the lower half
+pub lower_half : (word a : ℕ) → a ≤ 64 → marks_below word a ≡ count_ones (word % 2 ^ 64 % 2 ^ a)
+lower_half word a le =
+    let parts : 64 - a + a ≡ 64 = omega arith in
+    marks_below_is word a ∙ ap count_ones (sym (mod-mod-pow word (64 - a) a)) ∙ ap (λ n. count_ones (word % 2 ^ n % 2 ^ a)) parts
+
+-- those of more nodes are all of the lower half and the first ones of the upper half
+pub both_halves : (word a : ℕ) → 64 ≤ a → marks_below word a ≡ count_ones (word % 2 ^ 64) + count_ones (word / 2 ^ 64 % 2 ^ (a - 64))
+both_halves word a le =
+    let parts : a ≡ a - 64 + 64 = omega arith in
+    let low : word % 2 ^ 64 < 2 ^ 64 = mod-lt word (pow_pos 64) in
+    let split : marks_below word a ≡ count_ones (word / 2 ^ 64 % 2 ^ (a - 64) * 2 ^ 64 + word % 2 ^ 64) =
+    marks_below_is word a ∙ ap (λ n. count_ones (word % 2 ^ n)) parts ∙ ap count_ones (mod-pow-add word (a - 64) 64) in
+    let apart : count_ones (word / 2 ^ 64 % 2 ^ (a - 64) * 2 ^ 64 + word % 2 ^ 64) ≡ count_ones (word / 2 ^ 64 % 2 ^ (a - 64)) + count_ones (word % 2 ^ 64) = ones_cat 64 (word / 2 ^ 64 % 2 ^ (a - 64)) (word % 2 ^ 64) low in
+    omega arith
 
 -- ---- marks of nodes
 

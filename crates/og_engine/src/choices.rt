@@ -8,10 +8,10 @@ ghost use Rattle.og_victim.specs.Slot.{is_free_slot};
 ghost use Rattle.og_machine.specs.Machine.{is_stopped, is_quiet, is_at_rest};
 ghost use Rattle.og_machine.specs.Choices.{enabled_of};
 ghost use Rattle.og_engine.specs.Kept.{machine_of, setup_in, IsMade, WasMade};
-ghost use Rattle.og_engine.specs.Order.{may_act_at, acts_to, choices_below as count_of_choices_below};
+ghost use Rattle.og_engine.specs.Order.{acts_to, choices_below as count_of_choices_below};
 
 use crate::Machine;
-use crate::marks::{count_below, has_mark, nth_mark};
+use crate::marks::{count_below, nth_mark};
 use og_base::{ActorId, Choice};
 use og_image::Image;
 use og_node::Node;
@@ -64,24 +64,58 @@ impl Machine {
         ensures { slice_get (enabled_of (setup_in image.now self.now) (machine_of self.now)) at ≡ Some result }
     {
         let at = at as usize;
-        let actor = self.actor_at(at);
-        let rest = at - self.choices_below(actor);
-        let acts = usize::from(self.may_act(actor));
-        if rest < acts {
-            return Choice::Act(actor);
+        let takes = self.takes_before(at);
+        if self.stands_at(takes, at) {
+            return self.take_at(image, at, takes);
         }
-        Choice::Take(actor, self.flight.nth_for(actor, rest - acts).id)
+        self.act_at(image, at, takes)
     }
 
-    /// Whether the actor's act is enabled.
-    fn may_act(&self, actor: ActorId) -> bool
-        ensures { result ≡ may_act_at self.now actor }
+    /// The choice at a place where, the mover's act left out, the take of this message stands.
+    fn take_at(&self, image: &Image, at: usize, takes: usize) -> Choice
+        requires made { IsMade image.now self.now }
+        requires inside { at < length (enabled_of (setup_in image.now self.now) (machine_of self.now)) }
+        requires there { takes < length self.now.flight.messages }
+        requires here { (m : Msg Kind) → slice_get self.now.flight.messages takes ≡ Some m → takes + acts_to self.now m.to ≡ at }
+        ensures { slice_get (enabled_of (setup_in image.now self.now) (machine_of self.now)) at ≡ Some result }
     {
-        if actor < self.settings.nodes {
-            has_mark(self.ready, actor)
-        } else {
-            self.mover.local.can_act()
+        let message = self.flight.select(takes);
+        if message.to < self.settings.nodes {
+            return Choice::Take(message.to, message.id);
         }
+        self.choice_of_mover(image, self.settings.nodes, at)
+    }
+
+    /// The choice at a place where, the mover's act left out, no take stands, and before which there are so many takes.
+    fn act_at(&self, image: &Image, at: usize, takes: usize) -> Choice
+        requires made { IsMade image.now self.now }
+        requires inside { at < length (enabled_of (setup_in image.now self.now) (machine_of self.now)) }
+        requires few { takes ≤ length self.now.flight.messages }
+        requires before { (m : Msg Kind) → 0 < takes → slice_get self.now.flight.messages (takes - 1) ≡ Some m → takes - 1 + acts_to self.now m.to < at }
+        requires behind { (m : Msg Kind) → slice_get self.now.flight.messages takes ≡ Some m → at < takes + acts_to self.now m.to }
+        ensures { slice_get (enabled_of (setup_in image.now self.now) (machine_of self.now)) at ≡ Some result }
+    {
+        let actor = nth_mark(self.ready, self.settings.nodes, at - takes);
+        if actor < self.settings.nodes {
+            return Choice::Act(actor);
+        }
+        self.choice_of_mover(image, self.settings.nodes, at)
+    }
+
+    /// The choice at a place before which all choices of nodes stand: the mover's act, or a take of the mover's.
+    fn choice_of_mover(&self, image: &Image, mover: ActorId, at: usize) -> Choice
+        requires made { IsMade image.now self.now }
+        requires inside { at < length (enabled_of (setup_in image.now self.now) (machine_of self.now)) }
+        requires mover { mover ≡ self.now.settings.nodes }
+        requires behind { count_of_choices_below self.now mover ≤ at }
+        ensures { slice_get (enabled_of (setup_in image.now self.now) (machine_of self.now)) at ≡ Some result }
+    {
+        let rest = at - self.choices_below(mover);
+        let acts = usize::from(self.mover.local.can_act());
+        if rest < acts {
+            return Choice::Act(mover);
+        }
+        Choice::Take(mover, self.flight.nth_for(mover, rest - acts).id)
     }
 
     /// How many choices the actors below this one have.
@@ -92,21 +126,6 @@ impl Machine {
     {
         let _in_flight = self.flight.len();
         count_below(self.ready, actor) as usize + self.flight.below(u16::from(actor))
-    }
-
-    /// The actor of the enabled choice with this number: the last one below which there are no more choices than that. Either a
-    /// message to it stands at that place, or the choice is an act, and acts are counted by their marks.
-    fn actor_at(&self, at: usize) -> ActorId
-        requires made { WasMade self.now }
-        ensures low { count_of_choices_below self.now result ≤ at }
-        ensures high { result < self.now.settings.nodes → at < count_of_choices_below self.now (result + 1) }
-        ensures actor { result ≤ self.now.settings.nodes }
-    {
-        let takes = self.takes_before(at);
-        if self.stands_at(takes, at) {
-            return self.flight.select(takes).to;
-        }
-        nth_mark(self.ready, self.settings.nodes, at - takes)
     }
 
     /// How many messages in flight stand before this place among the choices.

@@ -1,6 +1,6 @@
 //! A mark for each node, in one word: which nodes may act, and which harts still run.
 
-ghost use Rattle.std.specs.Prelude.{◌≡◌, ℕ, ◌+◌, ◌<◌, ◌≤◌, nat_eq, if◌then◌else◌};
+ghost use Rattle.std.specs.Prelude.{◌≡◌, ℕ, ◌+◌, ◌%◌, ◌^◌, ◌<◌, ◌≤◌, nat_eq, count_ones as ones, if◌then◌else◌};
 ghost use Rattle.og_engine.specs.Marks.{is_marked, marks_below};
 
 use og_base::{ActorId, NodeId};
@@ -24,16 +24,30 @@ pub(crate) fn has_mark(marks: u128, node: NodeId) -> bool
     node < 128 && marks >> node & 1 == 1
 }
 
-/// How many nodes below this actor are marked.
+/// How many of the first bits of half a word are set.
+fn ones_below(half: u64, count: u8) -> u32
+    requires { count ≤ 64 }
+    ensures ones { result ≡ ones (half % 2 ^ count) }
+    ensures few { result ≤ 64 }
+{
+    if count >= 64 {
+        return half.count_ones();
+    }
+    (half & ((1 << count) - 1)).count_ones()
+}
+
+/// How many nodes below this actor are marked. The halves of the word are counted apart, the upper one only where it has such nodes.
 pub(crate) fn count_below(marks: u128, actor: ActorId) -> u32
     requires { actor ≤ 128 }
     ensures count { result ≡ marks_below marks actor }
     ensures few { result ≤ 128 }
 {
-    if actor >= 128 {
-        return marks.count_ones();
+    let low = (marks % (1 << 64)) as u64;
+    if actor <= 64 {
+        return ones_below(low, actor);
     }
-    (marks & ((1 << actor) - 1)).count_ones()
+    let high = (marks >> 64) as u64;
+    low.count_ones() + ones_below(high, actor - 64)
 }
 
 /// The node of the n-th mark, from 0 on; the number of nodes where fewer are marked.

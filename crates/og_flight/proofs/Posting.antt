@@ -1,9 +1,8 @@
 -- Letters that go into flight one after another.
-use Rattle.std.proofs.Common.{◌≡◌, ℕ, suc, ◌+◌, ◌<◌, ◌≤◌, Bool, true, false, cond, None, Some, List, [], ◌∷◌, length, drop, get_or, arith, refl, sym, subst, ap, ◌∙◌, drop-cons}
+use Rattle.std.proofs.Common.{◌≡◌, ℕ, suc, ◌+◌, ◌<◌, Bool, true, false, cond, None, Some, List, [], ◌∷◌, length, drop, get_or, arith, sym, subst, ap, ◌∙◌, drop-cons}
 use Rattle.std.proofs.lemmas.Bool.Decides.{nat_tests}
 use Rattle.og_runs.specs.declared.Letter.{Letter}
 use Rattle.og_runs.specs.declared.Msg.{Msg}
-use Rattle.og_runs.specs.declared.MsgId.{MsgId}
 use Rattle.og_runs.specs.Runs.{posted, same_id}
 use Rattle.og_runs.specs.World.{find, placed, placed_all, precedes}
 use Rattle.og_runs.proofs.Placed.{find_insert}

@@ -3,7 +3,7 @@
 //! Contracts see the canonical list of `og_runs`: by receiver, then sender, then number.
 #![tactic(auto)]
 
-ghost use Rattle.std.specs.Prelude.{◌≡◌, ℕ, ◌+◌, ◌<◌, ◌≤◌, ◌^◌, IfOk, IfSome, IfNone, None, Some, length, slice_get, vec_len, vec_capacity};
+ghost use Rattle.std.specs.Prelude.{◌≡◌, ℕ, ◌+◌, ◌<◌, ◌≤◌, ◌^◌, IfOk, None, Some, length, slice_get, vec_len, vec_capacity};
 ghost use Rattle.og_runs.specs.Runs.{posted};
 ghost use Rattle.og_runs.specs.World.{find, flight_after, placed, placed_all};
 ghost use Rattle.og_flight.specs.Flight.{before, rank_of, IsRanked, found_for, messages_to, messages_below, first_sent, Went, place_of, AllSlots, messages_of, sent_before, sooner_of};

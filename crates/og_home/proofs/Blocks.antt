@@ -1,5 +1,5 @@
 -- What a home is after blocks or counters have changed.
-use Rattle.std.proofs.Common.{◌≡◌, ℕ, ◌+◌, ◌*◌, ◌<◌, ◌≤◌, Bool, true, false, cond, ◌&&◌, List, length, get_or, refl, sym, ◌∙◌, ap, ap₂, subst, arith, inl, inr, ◌⊎◌}
+use Rattle.std.proofs.Common.{◌≡◌, ℕ, ◌+◌, ◌*◌, ◌<◌, ◌≤◌, Bool, true, false, cond, ◌&&◌, List, length, refl, sym, ◌∙◌, ap, ap₂, subst, arith, inl, inr, ◌⊎◌}
 use Rattle.std.proofs.Math.Path.{fun_ext}
 use Rattle.std.proofs.Math.ListN.{set}
 use Rattle.std.proofs.lemmas.List.{get_or_read, get_or-set_same, get_or-set_other, length-set}
@@ -11,7 +11,7 @@ use Rattle.og_directory.specs.declared.entry.State.{State}
 use Rattle.og_directory.specs.declared.entry.State.TheVariants.{Unowned}
 use Rattle.og_directory.specs.Table.{NamesNodes}
 use Rattle.og_counters.specs.Counts.{CountersState, with_value}
-use Rattle.og_counters.specs.Kept.{KeptCounts, counters_of}
+use Rattle.og_counters.specs.Kept.{counters_of}
 use Rattle.og_home.specs.Home.{HomeState, with_pair, with_block, with_counters, with_clean_frame}
 use Rattle.og_home.specs.Kept.{KeptHome, IsHome, block_in, home_of}
 

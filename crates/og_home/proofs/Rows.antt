@@ -1,8 +1,8 @@
 -- What a row of the table comes to, how many letters it has, and which messages name a block.
-use Rattle.std.proofs.Common.{◌≡◌, ℕ, ◌+◌, ◌*◌, ◌<◌, ◌≤◌, Bool, true, false, cond, not, ◌&&◌, Option, None, Some, List, [], ◌∷◌, ◌++◌, length, map, inl, inr, refl, sym, ◌∙◌, ap, ap₂, subst, arith}
+use Rattle.std.proofs.Common.{◌≡◌, ℕ, ◌+◌, ◌*◌, ◌<◌, ◌≤◌, Bool, true, false, cond, not, ◌&&◌, Option, None, Some, List, [], ◌∷◌, ◌++◌, length, inl, inr, refl, sym, ◌∙◌, ap, ap₂, subst, arith}
 use Rattle.std.specs.Prelude.{IsSome, IfSome, MatchBool, nat_eq, slice_index_or, zero, suc}
 use Rattle.std.specs.Bool.{OnTrue}
-use Rattle.std.specs.List.{list_any, filter}
+use Rattle.std.specs.List.{list_any}
 use Rattle.std.specs.Ordering.{nat_cmp}
 use Rattle.std.specs.FinSet as set
 use Rattle.std.proofs.lemmas.List.{length-append, length-map}
@@ -11,7 +11,6 @@ use Rattle.std.proofs.lemmas.Bool.{false≢true, cases_eq, and_parts, and_from}
 use Rattle.og_base.specs.declared.Block.{Block}
 use Rattle.og_base.specs.declared.Frame.{Frame}
 use Rattle.og_base.specs.Numbers.{below}
-use Rattle.og_base.specs.Groups.{group_size}
 use Rattle.og_image.proofs.Pages.{below_length}
 use Rattle.og_runs.specs.declared.Letter.{Letter}
 use Rattle.og_runs.specs.declared.Msg.{Msg}
@@ -24,7 +23,7 @@ use Rattle.og_sharers.specs.Sets.{is_other}
 use Rattle.og_directory.specs.declared.entry.State.{State}
 use Rattle.og_directory.specs.declared.entry.State.TheVariants.{Unowned, Shared, Exclusive, BusyShared, BusyExclusive, BusyPoison, Poison}
 use Rattle.og_directory.specs.Table.{Row, row, row_of, kind_row, read_row, read_exclusive_row, upgrade_row, invalidating, sharers_but, is_sharer, grant, is_counted, is_request, is_refusal, NamesNodes}
-use Rattle.og_home.specs.Home.{HomeState, Served, served, with_block, by_row, table_row, serve_row, serve_named, serve_kind, HasNamedRow, HasKindRow, is_poison, are_poisoned}
+use Rattle.og_home.specs.Home.{HomeState, served, with_block, by_row, table_row, serve_row, serve_named, serve_kind, HasNamedRow, HasKindRow, is_poison, are_poisoned}
 use Rattle.og_home.specs.Kept.{KeptHome, IsHome, block_in}
 use Rattle.og_home.proofs.Blocks.{block_read}
 

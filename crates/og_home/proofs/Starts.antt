@@ -15,7 +15,6 @@ use Rattle.og_directory.specs.declared.entry.State.TheVariants.{Unowned}
 use Rattle.og_directory.specs.Table.{NamesNodes}
 use Rattle.og_counters.specs.Counts.{new_counters}
 use Rattle.og_counters.specs.Kept.{KeptCounts, counters_of}
-use Rattle.og_home.specs.Home.{HomeState}
 use Rattle.og_home.specs.Kept.{KeptHome, IsHome, block_in, home_of}
 use Rattle.og_home.specs.Start.{first_line, start_home}
 use Rattle.og_home.proofs.Blocks.{block_in-inside, block_in-past, same_home}

@@ -15,7 +15,7 @@ use Rattle.og_directory.specs.declared.entry.State.{State}
 use Rattle.og_directory.specs.declared.entry.State.TheVariants.{Unowned, Poison}
 use Rattle.og_directory.specs.Table.{Row, to, row_of, is_counted, IsFromItsSender}
 use Rattle.og_counters.specs.declared.CountRules.{CountRules}
-use Rattle.og_counters.specs.Counts.{FrameCounts, CountersState, with_value, no_counts, count_step, reset_step}
+use Rattle.og_counters.specs.Counts.{FrameCounts, CountersState, with_value, count_step, reset_step}
 
 -- a home: which one it is, of how many nodes and frames, and by what it counts; the entry and the line of each block, by the
 -- index of its frame and its number there; and the counts of each frame

@@ -1,5 +1,5 @@
 -- What a home is at the start.
-use Rattle.std.specs.Prelude.{ℕ, ◌+◌, ◌*◌, ◌/◌, ◌%◌, ◌&&◌, nat_lt, Option, None, Some, slice_get, if◌then◌else◌}
+use Rattle.std.specs.Prelude.{ℕ, ◌+◌, ◌*◌, ◌&&◌, nat_lt, Option, None, Some, slice_get, if◌then◌else◌}
 use Rattle.og_base.specs.declared.Settings.{Settings}
 use Rattle.og_line.specs.declared.Line.{Line}
 use Rattle.og_line.specs.Line.{zero_line}

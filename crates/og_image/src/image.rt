@@ -7,6 +7,7 @@ ghost use Rattle.og_elf.specs.declared.segment.Segment.{Segment};
 ghost use Rattle.og_elf.specs.Segment.{IsLoadable, IsPlaced, is_text, lies_in, span_of, end_of};
 ghost use Rattle.og_image.specs.Image.{fetch_of, read_only_of, is_data_of, is_page, byte_of, byte_in, number_at, on_page, is_constant, is_written, Finds, FindsPages, is_data_page, is_stack_page, start_byte, image_of, in_order};
 
+use byteorder::{ByteOrder, LittleEndian};
 use og_base::NoMemory;
 use og_elf::{Elf, Segment, Segments};
 use std::alloc::Global;
@@ -54,6 +55,22 @@ fn number(segment: &Segment, addr: u64, width: u8) -> u64
         return 0;
     }
     u64::from(byte(segment, addr)) + 256 * number(segment, addr + 1, width - 1)
+}
+
+/// The word of the four bytes from an address of the segment on: one read where the file gave all
+/// four, and byte by byte at the end of what it gave.
+fn word(segment: &Segment, addr: u64) -> u32
+    requires above { segment.now.addr ≤ addr }
+    requires low { addr < 2 ^ 63 }
+    ensures { result ≡ number_at (byte_in segment.now) addr 4 }
+{
+    let bytes = segment.bytes.as_slice();
+    let at = (addr - segment.addr) as usize;
+    if bytes.len() >= 4 && at <= bytes.len() - 4 {
+        LittleEndian::read_u32(&bytes[at..])
+    } else {
+        number(segment, addr, 4) as u32
+    }
 }
 
 /// Whether `count` bytes from an address on lie in the segment.
@@ -172,7 +189,7 @@ impl Image {
     {
         let segment = self.last_to(pc)?;
         if is_text(segment, pc) {
-            Some(number(segment, pc, 4) as u32)
+            Some(word(segment, pc))
         } else {
             None
         }

@@ -1,9 +1,9 @@
 -- Dropping a page's slot, or all slots with a frame, is what the rows do to the node's entries.
 use Rattle.std.proofs.Common.{◌≡◌, ℕ, true, false, Bool, cond, nat_eq, arith, List, [], ◌∷◌}
 use Rattle.std.proofs.lemmas.Bool.Decides.{nat_tests}
-use Rattle.og_pages.specs.State.{TlbEntry, NoEntry, To}
+use Rattle.og_pages.specs.State.{NoEntry}
 use Rattle.og_pages.specs.Rows.{points_to}
-use Rattle.og_pages.specs.TlbSlots.{Slot, Empty, Filled, is_for, entry_of, look_up, IsAbsent, IsDistinct, without_page, without_frame, ForgetIsRow, DropIsRow}
+use Rattle.og_pages.specs.TlbSlots.{Slot, Empty, Filled, look_up, IsAbsent, IsDistinct, without_page, without_frame, ForgetIsRow, DropIsRow}
 
 look_up_forgotten : (xs : List Slot) (page z : ℕ) → look_up z (without_page page xs) ≡ cond (nat_eq z page) NoEntry (look_up z xs)
 look_up_forgotten [] page z = grind (arith, nat_tests)

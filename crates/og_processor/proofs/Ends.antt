@@ -1,5 +1,5 @@
 -- What the calls do that end a request.
-use Rattle.std.proofs.Common.{◌≡◌, ◌≢◌, ℕ, ◌+◌, ◌<◌, ◌≤◌, ◌^◌, Bool, true, false, ◌⊎◌, Option, None, Some, List, [], ◌∷◌, ◌++◌, length, refl, sym, ap, subst, arith}
+use Rattle.std.proofs.Common.{◌≡◌, ℕ, ◌+◌, ◌≤◌, true, ◌⊎◌, Option, None, Some, List, [], ◌∷◌, ◌++◌, length, refl, sym, ap, subst, arith}
 use Rattle.std.proofs.Math.Path.{◌∙◌}
 use Rattle.std.proofs.lemmas.List.{length-append}
 use Rattle.std.specs.Prelude.{IsSome, is_some, option_map}
@@ -8,16 +8,15 @@ use Rattle.og_line.specs.declared.Line.{Line}
 use Rattle.og_line.specs.declared.Mode.{Mode}
 use Rattle.og_line.specs.declared.Access.{Access}
 use Rattle.og_msg.specs.declared.Kind.{Kind}
-use Rattle.og_msg.specs.Kinds.{line_of as message_line}
 use Rattle.og_msg.specs.declared.Note.{Note}
 use Rattle.og_image.specs.Image.{ImageState}
 use Rattle.og_cache.specs.Cache.{Cached, IsCache, look_of, line_of, has_room, with_line}
 use Rattle.og_cache.specs.Laws.{LineIsSeen}
 use Rattle.og_request.specs.declared.Held.{Held}
 use Rattle.og_request.specs.declared.Outcome.{Outcome}
-use Rattle.og_request.specs.declared.Outcome.TheVariants.{Waiting, Filled}
-use Rattle.og_request.specs.Request.{Requested, received, outcome_of, has_row}
-use Rattle.og_owner.specs.Owner.{answers, answers_by, dirty_line_of, dirty_answers, clean_answers}
+use Rattle.og_request.specs.declared.Outcome.TheVariants.{Filled}
+use Rattle.og_request.specs.Request.{Requested, received, outcome_of}
+use Rattle.og_owner.specs.Owner.{answers, answers_by, dirty_line_of}
 use Rattle.rv_hart.specs.declared.hart.Need.{Need}
 use Rattle.rv_hart.specs.declared.hart.Need.TheVariants as need
 use Rattle.rv_hart.specs.Hart.{need_of}

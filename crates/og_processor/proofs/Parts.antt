@@ -1,16 +1,15 @@
 -- What is known of a request when a part comes, and what its end leaves.
-use Rattle.std.proofs.Common.{◌≡◌, ◌≢◌, ℕ, ◌<◌, ◌^◌, Bool, true, false, not, ◌&&◌, ◌||◌, ◌⊎◌, inl, inr, Option, None, Some, refl, sym, ap, subst, arith}
-use Rattle.std.proofs.Math.Path.{◌∙◌}
-use Rattle.std.specs.Prelude.{IsSome, is_none, is_some, option_map}
+use Rattle.std.proofs.Common.{◌≡◌, ◌≢◌, ℕ, Bool, true, false, not, ◌&&◌, ◌||◌, inl, inr, Option, None, Some, refl, sym, ap, subst, arith}
+use Rattle.std.specs.Prelude.{IsSome, is_none, option_map}
 use Rattle.og_base.specs.declared.Block.{Block}
 use Rattle.og_line.specs.declared.Line.{Line}
 use Rattle.og_line.specs.declared.Mode.{Mode}
-use Rattle.og_line.specs.declared.Mode.TheVariants.{Shared, Clean, Dirty}
+use Rattle.og_line.specs.declared.Mode.TheVariants.{Shared}
 use Rattle.og_line.specs.declared.Access.{Access}
 use Rattle.og_msg.specs.declared.Kind.{Kind}
 use Rattle.og_msg.specs.Kinds.{line_of as message_line}
 use Rattle.og_image.specs.Image.{ImageState}
-use Rattle.og_cache.specs.Cache.{Cached, IsCache, look_of, mode_of, line_of, has_room, without}
+use Rattle.og_cache.specs.Cache.{IsCache, look_of, mode_of, line_of, without}
 use Rattle.og_cache.proofs.Seen.{take_out_laws}
 use Rattle.og_request.specs.declared.Want.{Want}
 use Rattle.og_request.specs.declared.Want.TheVariants.{Read, ReadEx, Upgrade}

@@ -1,5 +1,5 @@
 -- What calls do, one after another.
-use Rattle.std.proofs.Common.{◌≡◌, List, [], ◌∷◌, ◌++◌, Option, None, Some, ap, refl, sym, append_assoc}
+use Rattle.std.proofs.Common.{List, [], ◌∷◌, ◌++◌, Option, None, ap, refl, sym, append_assoc}
 use Rattle.std.proofs.Math.Path.{◌∙◌}
 use Rattle.std.proofs.lemmas.List.{append-nil}
 use Rattle.og_msg.specs.declared.Note.{Note}

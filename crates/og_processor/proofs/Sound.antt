@@ -1,12 +1,11 @@
 -- A processor stays sound: its request is an access's, and the block that is asked for is there or has room.
-use Rattle.std.proofs.Common.{◌≡◌, ◌≢◌, Bool, true, false, ◌&&◌, ◌⊎◌, inl, inr, Option, None, Some, Ok, List, [], ◌∷◌, refl, sym, ap, subst, if◌then◌else◌}
+use Rattle.std.proofs.Common.{◌≡◌, Bool, true, false, ◌&&◌, ◌⊎◌, inl, inr, Option, None, Some, Ok, [], ◌∷◌, refl, sym, ap, subst, if◌then◌else◌}
 use Rattle.std.proofs.Math.Path.{◌∙◌}
 use Rattle.std.specs.Prelude.{IsSome, is_some, option_map}
 use Rattle.og_base.specs.declared.Block.{Block}
 use Rattle.og_base.specs.declared.Frame.{Frame}
 use Rattle.og_base.specs.declared.VPage.{VPage}
 use Rattle.og_base.specs.declared.Cause.{Cause}
-use Rattle.og_base.specs.declared.NotEnabled.{NotEnabled}
 use Rattle.og_base.specs.Names.{is_same_block}
 use Rattle.og_base.proofs.SameNames.{same_block, is_same_block-self}
 use Rattle.og_line.specs.declared.Line.{Line}
@@ -22,7 +21,7 @@ use Rattle.og_cache.specs.Cache.{Cached, IsCache, look_of, mode_of, line_of, has
 use Rattle.og_cache.proofs.Seen.{mode_laws, take_out_laws, reserve_laws}
 use Rattle.og_tlb.specs.Tlb.{look_of as frame_of}
 use Rattle.og_request.specs.declared.Want.{Want}
-use Rattle.og_request.specs.declared.Want.TheVariants.{Read, ReadEx, Upgrade}
+use Rattle.og_request.specs.declared.Want.TheVariants.{Upgrade}
 use Rattle.og_request.specs.declared.Held.{Held}
 use Rattle.og_request.specs.declared.Held.TheVariants.{Shared as ShareWith, Exclusive as GiveTo, Poison as GiveBack}
 use Rattle.og_request.specs.declared.Outcome.{Outcome}
@@ -34,9 +33,9 @@ use Rattle.og_victim.specs.Slot.{is_slot_of, after_ack, after_intervention as sl
 use Rattle.rv_hart.specs.declared.hart.Need.{Need}
 use Rattle.rv_hart.specs.declared.hart.Need.TheVariants as need
 use Rattle.rv_hart.specs.Hart.{need_of}
-use Rattle.og_processor.specs.State.{ProcessorState, Given, becomes, sends, and_then, letter}
+use Rattle.og_processor.specs.State.{ProcessorState, becomes, sends, and_then, letter}
 use Rattle.og_processor.specs.Access.{page_of, block_in, allows}
-use Rattle.og_processor.specs.Act.{may_act, may_act_by, act_of, by_need, on_page, on_block, on_line, leaves, mode_out, throws_out, wanted, misses}
+use Rattle.og_processor.specs.Act.{may_act, may_act_by, act_of, by_need, on_page, on_line, leaves, mode_out, wanted, misses}
 use Rattle.og_processor.specs.Take.{take_of, is_occupied, drops, drops_by, intervenes, is_for, holding, is_asked, settles, makes, tries_again, forgets, put_line, answers_held, ends, goes_on, receives}
 use Rattle.og_processor.specs.Sound.{IsSound, IsWaiting}
 use Rattle.og_processor.proofs.Parts.{same_request}

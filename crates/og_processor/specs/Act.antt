@@ -18,7 +18,7 @@ use Rattle.og_msg.specs.declared.Note.{Note}
 use Rattle.og_msg.specs.declared.Note.TheVariants as note
 use Rattle.og_image.specs.Image.{ImageState}
 use Rattle.og_cache.specs.declared.CachedBlock.{CachedBlock}
-use Rattle.og_cache.specs.Cache.{Cached, look_of, mode_of, line_of, thrown_out, reserved}
+use Rattle.og_cache.specs.Cache.{look_of, mode_of, line_of, thrown_out, reserved}
 use Rattle.og_tlb.specs.Tlb.{look_of as frame_of}
 use Rattle.og_request.specs.declared.Want.{Want}
 use Rattle.og_request.specs.declared.Want.TheVariants.{Read, ReadEx, Upgrade}

@@ -1,5 +1,5 @@
 -- What an act and a take leave: a processor that is sound again.
-use Rattle.std.specs.Prelude.{◌≡◌, true, Ok}
+use Rattle.std.specs.Prelude.{◌≡◌, Ok}
 use Rattle.og_msg.specs.declared.Kind.{Kind}
 use Rattle.og_image.specs.Image.{ImageState}
 use Rattle.og_cache.specs.Cache.{IsCache}

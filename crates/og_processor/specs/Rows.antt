@@ -10,7 +10,7 @@ use Rattle.og_msg.specs.declared.Kind.{Kind}
 use Rattle.og_msg.specs.declared.Kind.TheVariants.{Invalidate, InterveneShared, InterveneEx, IntervenePoison, WbAck, WbBusyAck, Walked, WalkRetry, DropFrame}
 use Rattle.og_cache.specs.Cache.{mode_of}
 use Rattle.og_request.specs.declared.Want.{Want}
-use Rattle.og_request.specs.declared.Want.TheVariants.{Read, ReadEx, Upgrade}
+use Rattle.og_request.specs.declared.Want.TheVariants.{Upgrade}
 use Rattle.og_request.specs.declared.Outcome.{Outcome}
 use Rattle.og_request.specs.declared.Outcome.TheVariants.{Waiting, Filled, Again, Poisoned}
 use Rattle.og_request.specs.Request.{Requested, received, outcome_of, has_row}

@@ -6,7 +6,7 @@ use Rattle.og_line.specs.declared.Access.{Access}
 use Rattle.og_msg.specs.declared.Kind.{Kind}
 use Rattle.og_msg.specs.Kinds.{line_of as message_line}
 use Rattle.og_image.specs.Image.{ImageState}
-use Rattle.og_cache.specs.Cache.{Cached, look_of, line_of, has_room}
+use Rattle.og_cache.specs.Cache.{look_of, line_of, has_room}
 use Rattle.og_request.specs.declared.Reply.{Reply}
 use Rattle.og_request.specs.declared.Reply.TheVariants.{Shared as SharedPart, Exclusive as ExclusivePart, Speculative as SpeculativePart}
 use Rattle.og_request.specs.declared.Response.{Response}

@@ -12,7 +12,7 @@ use Rattle.og_image.specs.Image.{ImageState}
 use Rattle.og_cache.specs.Cache.{Cached, look_of, line_of, filled, with_line, with_mode, without}
 use Rattle.og_tlb.specs.Tlb.{filled as tlb_filled, without_page, without_frame}
 use Rattle.og_request.specs.declared.Want.{Want}
-use Rattle.og_request.specs.declared.Want.TheVariants.{Read, ReadEx, Upgrade}
+use Rattle.og_request.specs.declared.Want.TheVariants.{Upgrade}
 use Rattle.og_request.specs.declared.Held.{Held}
 use Rattle.og_request.specs.declared.Held.TheVariants.{Shared as ShareWith, Exclusive as GiveTo, Poison as GiveBack}
 use Rattle.og_request.specs.declared.Outcome.{Outcome}

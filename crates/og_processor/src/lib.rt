@@ -10,7 +10,7 @@
 //! side. An event takes no memory, and looks into one set of the cache and into the TLB's slots.
 #![tactic(auto)]
 
-ghost use Rattle.std.specs.Prelude.{◌≡◌, ◌≢◌, ◌<◌, ◌≤◌, ◌+◌, ◌++◌, ◌∷◌, [], length, true, false, IfOk, IsSome, Some, None, Ok, Option};
+ghost use Rattle.std.specs.Prelude.{◌≡◌, ◌<◌, ◌≤◌, ◌+◌, ◌++◌, ◌∷◌, [], length, true, false, IfOk, IsSome, Some, None, Ok, Option};
 ghost use Rattle.og_line.specs.declared.Line.{Line};
 ghost use Rattle.og_line.specs.declared.Reservation.{Reservation};
 ghost use Rattle.og_line.specs.Access.{addr_of, answer_of, IsAligned};
@@ -124,8 +124,8 @@ fn send(out: &mut Outbox, to: ActorId, kind: Kind)
 impl Processor {
     ghost use Rattle.og_processor.specs.State.{new_processor, Did};
     ghost use Rattle.og_processor.specs.Access.{completes};
-    ghost use Rattle.og_processor.specs.Act.{may_act, is_blocked_by, is_blocked_at, is_blocked, is_dirty_out, act_of, by_need, on_page, on_block, throws_out, asks, misses};
-    ghost use Rattle.og_processor.specs.Sound.{IsSound, IsLowProcessor};
+    ghost use Rattle.og_processor.specs.Act.{may_act, is_blocked_by, is_blocked_at, is_blocked, is_dirty_out, act_of, on_page, on_block, throws_out, asks};
+    ghost use Rattle.og_processor.specs.Sound.{IsLowProcessor};
 
     /// A processor at the start. It takes all memory that the processor will ever need.
     pub fn make(

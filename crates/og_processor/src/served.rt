@@ -1,8 +1,7 @@
 //! Which messages a processor can serve: those that have a row.
 
-ghost use Rattle.std.specs.Prelude.{◌≡◌, true, IsTrue};
-ghost use Rattle.og_cache.specs.Cache.{mode_of};
-ghost use Rattle.og_processor.specs.Rows.{has_row_for, has_intervention_row, has_part_row, ends_well, has_its_copy, may_answer, leaves_shared, is_shared as is_shared_mode, is_exclusive as is_exclusive_mode};
+ghost use Rattle.std.specs.Prelude.{◌≡◌, true};
+ghost use Rattle.og_processor.specs.Rows.{has_row_for, has_intervention_row, has_part_row, ends_well, has_its_copy, leaves_shared, is_shared as is_shared_mode, is_exclusive as is_exclusive_mode};
 
 use crate::Processor;
 use og_base::Block;

@@ -1,6 +1,6 @@
 //! What a processor makes of a message.
 
-ghost use Rattle.std.specs.Prelude.{◌≡◌, ◌≢◌, ◌<◌, ◌≤◌, ◌+◌, ◌++◌, ◌^◌, ◌⊎◌, [], length, true, false, IsSome, Some, None};
+ghost use Rattle.std.specs.Prelude.{◌≡◌, ◌≢◌, ◌<◌, ◌≤◌, ◌+◌, ◌++◌, ◌⊎◌, [], length, true, false, IsSome, Some, None};
 ghost use Rattle.og_cache.specs.Cache.{look_of, mode_of, has_room};
 ghost use Rattle.og_line.specs.declared.Mode.{Mode};
 ghost use Rattle.og_victim.specs.Slot.{is_slot_of};
@@ -8,7 +8,7 @@ ghost use Rattle.og_processor.specs.State.{Did};
 ghost use Rattle.og_request.specs.declared.Held.{Held};
 ghost use Rattle.og_request.specs.declared.Outcome.{Outcome};
 ghost use Rattle.og_processor.specs.Take.{take_of, drops, intervenes, is_asked, receives, ends, settles, fills, put_line, answers_held, forgets};
-ghost use Rattle.og_processor.specs.Rows.{has_row_for, has_intervention_row, has_part_row, ends_well, has_its_copy, may_answer};
+ghost use Rattle.og_processor.specs.Rows.{has_row_for, has_intervention_row, has_part_row, ends_well, has_its_copy};
 ghost use Rattle.og_processor.specs.Sound.{IsSound, IsWaiting, IsLow, IsLowProcessor, IsLowKind, line_brought};
 ghost use Rattle.rv_hart.specs.Hart.{need_of};
 

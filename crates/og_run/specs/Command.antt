@@ -1,9 +1,9 @@
 -- The command from its words to its answer, a run in threads among them.
-use Rattle.std.specs.Prelude.{◌≡◌, ℕ, ◌⊎◌, Option, Some, IfSome}
+use Rattle.std.specs.Prelude.{◌≡◌, ℕ, ◌⊎◌, Option, Some, IfSome, List, [], drop}
 use Rattle.og_base.specs.declared.Settings.{Settings}
 use Rattle.og_base.specs.Settings.{settings_seen}
 use Rattle.og_io.specs.Outside.{ShelfState, SinkState, Files, IsAsBefore}
-use Rattle.og_words.specs.Words.{JobState, run}
+use Rattle.og_words.specs.Words.{JobState, run, job_of}
 use Rattle.og_cli.specs.declared.exit.Exit.{Exit}
 use Rattle.og_cli.specs.declared.exit.Exit.TheVariants as exit
 use Rattle.og_cli.specs.Exit.{status_of, error_line, IsReported}
@@ -41,3 +41,12 @@ abbrev pub EndsWithStatus : Option JobState → ShelfState → ShelfState → Si
 EndsWithStatus asked shelf after old new err_before err_after status =
     (answer : Exit) × (status ≡ status_of answer) × CommandEnds asked shelf after old new answer × EndsUnhindered asked shelf after old new answer
     × IsReported (error_line (alone.names_of asked) answer) err_before err_after
+
+-- ------------------------------------------------------------ the program
+
+-- a program with these arguments, the first of them its name, ends with this status: it is that of the command on the
+-- words after it, over files of which no fetch had failed, and streams that had no fault
+abbrev pub ProgramEnds : List (List ℕ) → ℕ → Type 0
+ProgramEnds arguments status =
+    (shelf after : ShelfState) × (old new err_before err_after : SinkState) × (shelf.failed ≡ []) × (old.faults ≡ 0) × (err_before.faults ≡ 0)
+    × EndsWithStatus (job_of (drop 1 arguments)) shelf after old new err_before err_after status

@@ -1,11 +1,11 @@
 //! The whole program, around which each `main` is one line.
 //!
 //! It hands the words of the command line, the files of the system and its standard streams to the
-//! command, and ends with the command's status. What a file holds and what standard output shows is
-//! trusted here.
+//! command, and ends with the command's status. What a file of the system holds and what standard
+//! output shows no clause tells.
 
-ghost use Rattle.std.specs.Prelude.{◌≡◌, drop};
-ghost use Rattle.og_run.specs.Command.{EndsWithStatus};
+ghost use Rattle.std.specs.Prelude.{◌≡◌, None, IfSome, drop};
+ghost use Rattle.og_run.specs.Command.{EndsWithStatus, ProgramEnds};
 ghost use Rattle.og_words.specs.Words.{job_of};
 ghost use Rattle.og_io.specs.Outside.{texts};
 
@@ -30,7 +30,10 @@ pub fn run_program<R: Files + Threads + Wait + Sync, O: Write + Drop, E: Write +
     arguments: Option<Vec<String>>,
     stdout: O,
     stderr: E,
-) -> u8 {
+) -> u8
+    ensures without_words { arguments ≡ None → result ≡ 15 }
+    ensures with_words { IfSome arguments (λ words. ProgramEnds (texts words.items) result) }
+{
     let Some(arguments) = arguments else {
         return NO_WORDS;
     };

@@ -1,6 +1,5 @@
 //! The command from its words to its answer, a run in threads among them.
 
-ghost use Rattle.std.specs.Prelude.{◌≡◌};
 ghost use Rattle.og_io.specs.Outside.{texts};
 ghost use Rattle.og_cli.specs.Exit.{IsReported, error_line};
 ghost use Rattle.og_cli.specs.Command.{names_of};

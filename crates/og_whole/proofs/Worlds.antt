@@ -2,10 +2,10 @@
 -- block keeps by itself, beside the invariant.
 use Rattle.std.proofs.Common.{◌≡◌, ◌≢◌, ℕ, ◌<◌, Bool, true, false, cond, nat_eq, arith, refl, subst, List, [], ◌∷◌}
 use Rattle.std.proofs.lemmas.Bool.Decides.{nat_tests}
-use Rattle.og_block.specs.State.{Block, Sharing, Idle, Poisoning, Want}
-use Rattle.og_block.specs.Rows.{Row as BlockRow, apply as block_apply, actor_of}
-use Rattle.og_block.specs.Balance.{Finds_ready, Balanced, due}
-use Rattle.og_block.specs.Moves.{Moves, SomethingMoves}
+use Rattle.og_block.specs.State.{Block, Sharing, Idle}
+use Rattle.og_block.specs.Rows.{apply as block_apply, actor_of}
+use Rattle.og_block.specs.Balance.{due}
+use Rattle.og_block.specs.Moves.{Moves}
 use Rattle.og_block.specs.Races.{Handed, Races}
 use Rattle.og_block.proofs.Balance.{finds_ready, balanced}
 use Rattle.og_block.proofs.Bounded.{bounded_kept}

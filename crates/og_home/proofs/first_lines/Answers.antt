@@ -1,4 +1,4 @@
-use Rattle.std.proofs.Common.{◌≡◌, ◌/◌, ◌%◌, map, arith}
+use Rattle.std.proofs.Common.{◌/◌, ◌%◌, arith}
 use Rattle.std.proofs.lemmas.Grind.{common_steps}
 use Rattle.og_base.specs.Numbers.{below}
 use Rattle.og_image.proofs.Pages.{map_below_more}

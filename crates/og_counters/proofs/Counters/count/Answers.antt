@@ -1,4 +1,4 @@
-use Rattle.std.proofs.Common.{◌≡◌, ◌||◌, is_some, ap, ap₂, sym, ◌∙◌}
+use Rattle.std.proofs.Common.{◌||◌, is_some, ap, ap₂, sym, ◌∙◌}
 use Rattle.og_counters.specs.Kept.{counters_of}
 use Rattle.og_counters.proofs.Steps.{marks, counted_full, counted_low}
 use Rattle.og_counters.proofs.Counters.count.Goals as goal

@@ -1,4 +1,4 @@
-use Rattle.std.proofs.Common.{◌≡◌, ◌+◌, ◌<◌, ap, ap₂, refl, arith}
+use Rattle.std.proofs.Common.{◌≡◌, ◌+◌, ap, ap₂, refl, arith}
 use Rattle.og_counters.specs.Kept.{frame_in}
 use Rattle.og_counters.specs.Counts.{sum_of}
 use Rattle.og_counters.proofs.Found.{kept-raised}

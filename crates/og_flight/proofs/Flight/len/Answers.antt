@@ -1,4 +1,4 @@
-use Rattle.std.proofs.Common.{rules, ◌≡◌, ◌+◌, ◌<◌, ◌≤◌, ◌^◌, arith, sym, ap, length}
+use Rattle.std.proofs.Common.{rules, ◌≡◌, arith, sym, ap, length}
 use Rattle.std.proofs.Math.Path.{◌∙◌}
 use Rattle.std.specs.Prelude.{vec_len, vec_capacity}
 use Rattle.og_flight.specs.Flight.{Flying}

@@ -1,4 +1,4 @@
-use Rattle.std.proofs.Common.{◌≡◌, ◌+◌, ◌<◌, ◌≤◌, ℕ, None, length, drop, get_or, arith, ap, ◌∙◌}
+use Rattle.std.proofs.Common.{◌≡◌, ◌+◌, ◌<◌, ℕ, None, length, drop, arith, ap, ◌∙◌}
 use Rattle.og_runs.specs.Runs.{posted}
 use Rattle.og_runs.specs.World.{find, placed_all}
 use Rattle.og_flight.specs.Flight.{Flying}

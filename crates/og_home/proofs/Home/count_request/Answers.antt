@@ -1,4 +1,4 @@
-use Rattle.std.proofs.Common.{◌≡◌, ◌++◌, ap, ap₂, sym, ◌∙◌, refl}
+use Rattle.std.proofs.Common.{◌++◌, ap, ap₂, ◌∙◌, refl}
 use Rattle.og_counters.specs.Counts.{count_step}
 use Rattle.og_counters.specs.Kept.{counters_of}
 use Rattle.og_home.specs.Home.{count_request, notice_letters}

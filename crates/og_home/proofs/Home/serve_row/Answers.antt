@@ -1,6 +1,5 @@
-use Rattle.std.proofs.Common.{◌≡◌, ◌++◌, ◌+◌, ◌<◌, ◌≤◌, Bool, true, false, Option, length, arith, ap, subst, sym, refl, ◌∙◌}
+use Rattle.std.proofs.Common.{◌≡◌, ◌++◌, ◌+◌, ◌<◌, ◌≤◌, Bool, Option, length, arith, ap, subst, sym, refl, ◌∙◌}
 use Rattle.std.specs.Prelude.{IsSome, IfSome}
-use Rattle.std.specs.Bool.{OnTrue}
 use Rattle.std.proofs.lemmas.List.{length-append}
 use Rattle.og_directory.specs.Table.{Row, row_of, is_counted, NamesNodes}
 use Rattle.og_home.specs.Home.{serve_row, table_row}

@@ -1,4 +1,4 @@
-use Rattle.std.proofs.Common.{rules, ◌≡◌, ap, sym, ◌∙◌, Some}
+use Rattle.std.proofs.Common.{rules, ap}
 use Rattle.og_processor.proofs.Ends.{ready}
 use Rattle.og_processor.proofs.Processor.receive.Goals as goal
 
