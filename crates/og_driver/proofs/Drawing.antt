@@ -19,7 +19,7 @@ use Rattle.og_headline.specs.Headline.{IsSimulation, drawn}
 use Rattle.og_headline.proofs.Sorted.{printed}
 use Rattle.og_headline.proofs.Drawn.{drawn_quiet, drawn_zero, drawn_more, simulation_runs}
 use Rattle.og_engine.specs.Kept.{KeptMachine, machine_of, setup_in, IsMade}
-use Rattle.og_driver.specs.Driven.{IsAtStart}
+use Rattle.og_driver.specs.Driven.{IsAtStart, IsNextEvent}
 
 -- after i events of a simulation from m: the machine n, the events in their order, and the generator
 pub record Going (image : ImageState) (m n : KeptMachine) (number most i : ℕ) (events : List (Event Note)) (draws : Lcg) : Type 0 where
@@ -46,27 +46,27 @@ going_start image m number most draws s words =
 pub same_setup : (image : ImageState) (m n : KeptMachine) → n.settings ≡ m.settings → setup_in image n ≡ setup_in image m
 same_setup image m n same = ap (λ (s : Settings). setup_of image s) same
 
-pub going_next : (image : ImageState) (m n v : KeptMachine) (number most i : ℕ) (events : List (Event Note)) (draws words : Lcg) (choice : Choice) (event : Event Note) → i < most → Going image m n number most i events draws → is_quiet (machine_of n) ≡ false
-    → next_choice (setup_in image n) number i (machine_of n) ≡ Some choice → world_step (rules (setup_in image n)) (machine_of n) choice ≡ Some (machine_of v, event)
-    → v.settings ≡ n.settings → IsMade image v → v.events ≡ n.events + 1 → words ≡ after number (i + 1)
-    → Going image m v number most (i + 1) (events ++ event ∷ []) words
-going_next image m n v number most i events draws words choice event more g unquiet next step settings made count drawn_on =
+pub going_next : (image : ImageState) (m n v : KeptMachine) (number most i : ℕ) (events : List (Event Note)) (draws left : Lcg) (event : Event Note) → i < most → Going image m n number most i events draws → IsNextEvent image n v draws left event
+    → Going image m v number most (i + 1) (events ++ event ∷ []) left
+going_next image m n v number most i events draws left event more g next =
     let setup : Setup = setup_in image m in
     let same = same_setup image m n g.settings in
-    let next_here : next_choice setup number i (machine_of n) ≡ Some choice = subst (λ (s : Setup). next_choice s number i (machine_of n) ≡ Some choice) same next in
-    let step_here : world_step (rules setup) (machine_of n) choice ≡ Some (machine_of v, event) = subst (λ (s : Setup). world_step (rules s) (machine_of n) choice ≡ Some (machine_of v, event)) same step in
-    let left : most - i ≡ suc (most - (i + 1)) = omega arith in
+    let made = next.step number i g.words in
+    let choice : Choice = made.0 in
+    let next_here : next_choice setup number i (machine_of n) ≡ Some choice = subst (λ (s : Setup). next_choice s number i (machine_of n) ≡ Some choice) same made.1 in
+    let step_here : world_step (rules setup) (machine_of n) choice ≡ Some (machine_of v, event) = subst (λ (s : Setup). world_step (rules s) (machine_of n) choice ≡ Some (machine_of v, event)) same made.2 in
+    let fewer : most - i ≡ suc (most - (i + 1)) = omega arith in
     let later : suc i ≡ i + 1 = omega arith in
     let rest : Machine × List (Event Note) = drawn_from setup number (i + 1) (most - (i + 1)) (machine_of v) in
     let one : drawn_from setup number i (most - i) (machine_of n) ≡ (rest.0, event ∷ rest.1) =
-    ap (λ (k : ℕ). drawn_from setup number i k (machine_of n)) left ∙ (drawn_more setup number i (most - (i + 1)) (machine_of n) (machine_of v) choice event unquiet next_here step_here
+    ap (λ (k : ℕ). drawn_from setup number i k (machine_of n)) fewer ∙ (drawn_more setup number i (most - (i + 1)) (machine_of n) (machine_of v) choice event next.unquiet next_here step_here
     ∙ ap (λ (k : ℕ). ((drawn_from setup number k (most - (i + 1)) (machine_of v)).0, event ∷ (drawn_from setup number k (most - (i + 1)) (machine_of v)).1)) later) in
     record {
-      settings = settings ∙ g.settings;
-      made = made;
-      count = count ∙ ap (λ (k : ℕ). k + 1) g.count;
+      settings = next.settings ∙ g.settings;
+      made = next.made;
+      count = next.count ∙ ap (λ (k : ℕ). k + 1) g.count;
       rest = g.rest ∙ ap (λ (p : Machine × List (Event Note)). (p.0, events ++ p.1)) one ∙ ap (λ (l : List (Event Note)). (rest.0, l)) (sym (append_assoc events (event ∷ []) rest.1));
-      words = drawn_on;
+      words = next.words number i g.words;
     }
 
 ended : (image : ImageState) (m n : KeptMachine) (number most i : ℕ) (events : List (Event Note)) (draws : Lcg) → Going image m n number most i events draws

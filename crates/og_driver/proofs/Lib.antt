@@ -1,3 +1,4 @@
 pub mod Next
 pub mod Drawing
+pub mod Counting
 pub mod Following

@@ -2,23 +2,26 @@
 //!
 //! Below stand the machine in code (`og_engine`), draws (`og_draws`), and what is claimed of every run that is printed
 //! (`og_headline`); above stand the commands. Events are kept in the order in which they are made, and sorted once, by stamp, at the
-//! end. An event takes no memory but its place in the list of events.
+//! end. An event takes no memory but its place in the list of events, and none where events are only counted.
 #![tactic(auto)]
 
-ghost use Rattle.std.specs.Prelude.{◌≡◌, ℕ, ◌+◌, ◌<◌, ◌^◌, ◌++◌, ◌∷◌, [], length, false, Some, Err, IfOk, OnOk};
+ghost use Rattle.std.specs.Prelude.{◌≡◌, ℕ, ◌+◌, ◌<◌, ◌^◌, ◌++◌, ◌∷◌, [], length, true, false, None, Some, Err, IfOk, OnOk, if◌then◌else◌};
 ghost use Rattle.og_draws.specs.Draws.{after};
 ghost use Rattle.og_machine.specs.Machine.{is_quiet};
 ghost use Rattle.og_machine.specs.Choices.{next_choice as next_choice_of};
 ghost use Rattle.og_refine.specs.Laws.{RunsTo};
 ghost use Rattle.og_headline.specs.Headline.{IsSimulation, IsReplay, IsRefused, drawn};
 ghost use Rattle.og_engine.specs.Kept.{machine_of, setup_in, IsMade};
-ghost use Rattle.og_driver.specs.Driven.{IsAtStart};
+ghost use Rattle.og_runs.specs.declared.Event.{Event};
+ghost use Rattle.og_msg.specs.declared.Note.{Note};
+ghost use Rattle.og_driver.specs.Driven.{IsAtStart, IsDrawing, IsNextEvent};
+ghost use Rattle.og_driver.specs.Tallied.{is_move, moves_of};
 
 use og_base::{Choice, NoMemory, NotEnabled};
 use og_draws::Draws;
 use og_engine::Machine;
 use og_image::Image;
-use og_msg::Event;
+use og_msg::{Event, Note};
 use og_runs::sort_events;
 use std::alloc::Global;
 
@@ -68,6 +71,24 @@ fn next_choice(image: &Image, machine: &Machine, draws: &mut Draws) -> Choice
     machine.enabled(image, draws.next_choice(count))
 }
 
+/// The next event of a simulation, None exactly where the machine is quiet.
+fn next_event(image: &Image, machine: &mut Machine, draws: &mut Draws) -> Option<Event>
+    requires made { IsMade image.now machine.old }
+    requires young { machine.old.events < 2 ^ 55 }
+    requires drawing { IsDrawing draws.old }
+    ensures ended { result ≡ None → is_quiet (machine_of machine.old) ≡ true × machine.new ≡ machine.old }
+    ensures made { (event : Event Note) → result ≡ Some event → IsNextEvent image.now machine.old machine.new draws.old draws.new event }
+{
+    if machine.quiet() {
+        return None;
+    }
+    let choice = next_choice(image, machine, draws);
+    match machine.step(image, choice) {
+        Ok(event) => Some(event),
+        Err(_) => unreachable!(),
+    }
+}
+
 /// Makes events from a machine's start on, until it is quiet or `most` were made: the choices are those that are drawn from the number,
 /// and once each hart has stopped those of the drain. They stand in the order in which they were made.
 pub fn advance(
@@ -85,16 +106,51 @@ pub fn advance(
     let mut events = Vec::new(alloc);
     let mut draws = Draws::of_number(number);
     for made in 0..most {
-        if machine.quiet() {
-            return Ok(events);
-        }
-        let choice = next_choice(image, machine, &mut draws);
-        match machine.step(image, choice) {
-            Ok(event) => events.push(event)?,
-            Err(_) => unreachable!(),
+        match next_event(image, machine, &mut draws) {
+            Some(event) => events.push(event)?,
+            None => return Ok(events),
         }
     }
     Ok(events)
+}
+
+/// How many events were made, and how many of them noted that a page was moved.
+#[derive(Clone, Copy, PartialEq, Eq, Debug)]
+pub struct Tally {
+    pub events: u32,
+    pub moves: u32,
+}
+
+/// How many moves an event noted: one or none.
+fn moves_noted(note: &Option<Note>) -> u32
+    ensures { result ≡ (if is_move note.now then 1 else 0) }
+{
+    match note {
+        Some(Note::Moved { .. }) => 1,
+        _ => 0,
+    }
+}
+
+/// Makes the same events as [`advance`], and counts them. It takes no memory.
+pub fn survey(image: &Image, machine: &mut Machine, number: u64, most: u32) -> Tally
+    requires start { IsAtStart image.now machine.old }
+    ensures end { machine_of machine.new ≡ (drawn (setup_in image.now machine.old) number most).0 }
+    ensures events { result.events ≡ length (drawn (setup_in image.now machine.old) number most).1 }
+    ensures moves { result.moves ≡ moves_of (drawn (setup_in image.now machine.old) number most).1 }
+    ensures made { IsMade image.now machine.new }
+{
+    let mut moves = 0;
+    let mut draws = Draws::of_number(number);
+    for events in 0..most {
+        match next_event(image, machine, &mut draws) {
+            Some(event) => moves += moves_noted(&event.note),
+            None => return Tally { events, moves },
+        }
+    }
+    Tally {
+        events: most,
+        moves,
+    }
 }
 
 /// The run that a simulation makes from a machine's start on, of `most` events at most. It ends where the machine is quiet.

@@ -244,10 +244,12 @@ pub record Picked {K : Type 0} (es : List IndexEntry) (slab : List (Msg K)) (k :
   pub at : slice_get es k ≡ Some entry
   pub kept : slice_get slab entry.slot ≡ Some message
   pub stands : slice_get (messages_of slab es) k ≡ Some message
+  pub to : message.to ≡ entry.to
+  pub id : message.id ≡ record { sender = entry.sender; seq = entry.seq }
 
 pub picked : {K : Type 0} → (es : List IndexEntry) (slab : List (Msg K)) (k : ℕ) → AllOf slab es → k < length (messages_of slab es) → Picked es slab k
 picked {K} es slab k all lt =
     let size : length (messages_of slab es) ≡ length es = messages_length slab es all in
     let e : (e : IndexEntry) × (slice_get es k ≡ Some e) = slice_get_some es k (omega arith) in
     let one : IsOne slab e.0 = all_get slab es k e.0 all e.1 in
-    record { entry = e.0; message = one.0; at = e.1; kept = one.1; stands = messages_get slab es k e.0 all e.1 ∙ one.1 }
+    record { entry = e.0; message = one.0; at = e.1; kept = one.1; stands = messages_get slab es k e.0 all e.1 ∙ one.1; to = one.2; id = ap₂ (λ s n. record { sender = s; seq = n }) one.3 one.4 }

@@ -8,6 +8,7 @@ ghost use Rattle.og_runs.specs.Runs.{posted};
 ghost use Rattle.og_runs.specs.World.{find, flight_after, placed, placed_all};
 ghost use Rattle.og_flight.specs.Flight.{before, rank_of, IsRanked, found_for, messages_to, messages_below, first_sent, Went, place_of, AllSlots, messages_of, sent_before, sooner_of};
 ghost use Rattle.std.specs.Prelude.{[], ◌∷◌, ◌++◌, take, drop, is_some};
+ghost use Rattle.og_runs.specs.declared.Msg.{Msg};
 
 use og_runs::{Letter, Msg, MsgId, Stamp};
 use std::alloc::{AllocError, Global};
@@ -279,6 +280,26 @@ impl<K: Copy> Flight<K> {
     {
         let slot = self.entries[k].slot;
         self.slab[slot as usize]
+    }
+
+    /// The receiver of the k-th message over all receivers. Only the index is looked at.
+    pub fn receiver(&self, k: usize) -> u8
+        requires { k < length self.now.messages }
+        ensures { (message : Msg K) → slice_get self.now.messages k ≡ Some message → result ≡ message.to }
+    {
+        self.entries[k].to
+    }
+
+    /// The name of the k-th message over all receivers. Only the index is looked at.
+    pub fn id(&self, k: usize) -> MsgId
+        requires { k < length self.now.messages }
+        ensures { (message : Msg K) → slice_get self.now.messages k ≡ Some message → result ≡ message.id }
+    {
+        let entry = &self.entries[k];
+        MsgId {
+            sender: entry.sender,
+            seq: entry.seq,
+        }
     }
 
     /// The k-th message in flight to this receiver, by sender, then number.

@@ -19,7 +19,8 @@ use Rattle.og_refine.specs.Machines.{IsRunnable}
 use Rattle.og_print.specs.declared.fault.RunFault.{RunFault}
 use Rattle.og_print.specs.declared.fault.RunFault.TheVariants as fault
 use Rattle.og_print.specs.Runs.{frames_fault, TextEnds}
-use Rattle.og_print.specs.Storm.{line_sum, held_sum, blocks_sum, storm_sum, moves_of, storm_line, quiet_end, limit_end, storm_end, storm_text, storm_setup, LineEnds, answer_of, StormEnds}
+use Rattle.og_driver.specs.Tallied.{moves_of}
+use Rattle.og_print.specs.Storm.{line_sum, held_sum, blocks_sum, storm_sum, storm_line, quiet_end, limit_end, storm_end, storm_text, storm_setup, LineEnds, answer_of, StormEnds}
 use Rattle.og_print.proofs.Played.{IsUnplaced}
 
 -- the block that comes next

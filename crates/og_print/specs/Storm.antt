@@ -5,7 +5,6 @@ use Rattle.og_line.specs.declared.Line.{Line}
 use Rattle.og_line.specs.Line.{load_of}
 use Rattle.og_runs.specs.declared.Event.{Event}
 use Rattle.og_msg.specs.declared.Note.{Note}
-use Rattle.og_msg.specs.declared.Note.TheVariants.{Moved}
 use Rattle.og_image.specs.Storm.{storm_of}
 use Rattle.og_io.specs.Outside.{SinkState}
 use Rattle.og_io.specs.Sinks.{with_appended, CutByFault, CutByWant}
@@ -14,6 +13,7 @@ use Rattle.og_io.specs.declared.SinkFault.TheVariants as sink
 use Rattle.og_machine.specs.Machine.{Setup, Machine, setup_of, is_quiet}
 use Rattle.og_machine.specs.Held.{held}
 use Rattle.og_headline.specs.Headline.{IsFaithful, drawn}
+use Rattle.og_driver.specs.Tallied.{moves_of}
 use Rattle.og_print.specs.declared.fault.RunFault.{RunFault}
 use Rattle.og_print.specs.declared.fault.RunFault.TheVariants as fault
 use Rattle.og_print.specs.Runs.{frames_fault, TextEnds}
@@ -36,15 +36,6 @@ blocks_sum w (suc k) = blocks_sum w k + held_sum (held w (record { 0 = 256 + k /
 -- of the 4,096 doublewords at 0x100000, modulo 2^64
 unfoldable pub storm_sum : Machine → ℕ
 storm_sum w = blocks_sum w 256 % 2 ^ 64
-
-abbrev pub is_move : Option Note → Bool
-is_move (Some (Moved page old new)) = true
-is_move noted = false
-
--- the moves that were published
-abbrev pub moves_of : List (Event Note) → ℕ
-moves_of [] = 0
-moves_of (e ∷ es) = (if is_move e.note then 1 else 0) + moves_of es
 
 -- `storm N LOOPS`, with the number of nodes, and what stands behind it
 abbrev pub storm_line : (nodes loops : ℕ) → List ℕ → List ℕ

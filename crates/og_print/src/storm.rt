@@ -1,21 +1,23 @@
 //! The storm: a run that is told in one line.
 
-ghost use Rattle.std.specs.Prelude.{◌≡◌, ◌%◌, ◌^◌, ◌≤◌, length};
+ghost use Rattle.std.specs.Prelude.{◌≡◌, ◌%◌, ◌^◌, ◌≤◌, List, length};
+ghost use Rattle.og_runs.specs.declared.Event.{Event};
+ghost use Rattle.og_msg.specs.declared.Note.{Note};
+ghost use Rattle.og_driver.specs.Tallied.{moves_of};
 ghost use Rattle.og_machine.specs.Machine.{is_quiet};
 ghost use Rattle.og_engine.specs.Kept.{machine_of, WasMade};
 ghost use Rattle.og_print.specs.Runs.{TextEnds};
-ghost use Rattle.og_print.specs.Storm.{StormEnds, LineEnds, answer_of, line_sum as sum_of_line, storm_sum as sum_of_storm, is_move as notes_move, moves_of, storm_line, quiet_end, limit_end, storm_text};
+ghost use Rattle.og_print.specs.Storm.{StormEnds, LineEnds, answer_of, line_sum as sum_of_line, storm_sum as sum_of_storm, storm_line, quiet_end, limit_end, storm_text};
 
 use crate::RunFault;
 use crate::place::place_machine;
 use itoa::Buffer;
 use og_base::{Settings, VPage};
-use og_driver::advance;
+use og_driver::{Tally, survey};
 use og_engine::Machine;
 use og_image::storm_image;
 use og_io::{Sink, SinkFault, write_parts};
 use og_line::Line;
-use og_msg::{Event, Note};
 use std::alloc::Global;
 
 /// The first page of the storm's data.
@@ -50,36 +52,15 @@ fn storm_sum(machine: &Machine) -> u64
     sum
 }
 
-/// Whether a move is noted.
-fn is_move(note: &Option<Note>) -> bool
-    ensures { result ≡ notes_move note.now }
-{
-    matches!(note, Some(Note::Moved { .. }))
-}
-
-/// How many moves were published.
-fn count_moves(events: &[Event]) -> usize
-    ensures { result ≡ moves_of events.now }
-{
-    let mut count = 0usize;
-    for event in events {
-        if is_move(&event.note) {
-            count += 1;
-        }
-    }
-    count
-}
-
 /// Writes the line of a storm that ended quiet.
 fn write_quiet<K: Sink>(
     nodes: u8,
     loops: u16,
     sum: u64,
-    moves: usize,
-    count: usize,
+    tally: Tally,
     out: &mut K,
 ) -> Result<(), SinkFault>
-    ensures { LineEnds (storm_line nodes loops (quiet_end sum moves count)) (K.seen out.old) (K.seen out.new) result }
+    ensures { LineEnds (storm_line nodes loops (quiet_end sum tally.moves tally.events)) (K.seen out.old) (K.seen out.new) result }
 {
     let mut first = Buffer::new();
     let mut second = Buffer::new();
@@ -89,8 +70,8 @@ fn write_quiet<K: Sink>(
     let nodes = first.format(nodes).as_bytes();
     let loops = second.format(loops).as_bytes();
     let sum = third.format(sum).as_bytes();
-    let moves = fourth.format(moves).as_bytes();
-    let count = fifth.format(count).as_bytes();
+    let moves = fourth.format(tally.moves).as_bytes();
+    let count = fifth.format(tally.events).as_bytes();
     write_parts(
         out,
         &[
@@ -110,7 +91,7 @@ fn write_quiet<K: Sink>(
 }
 
 /// Writes the line of a storm that came to its limit.
-fn write_limit<K: Sink>(nodes: u8, loops: u16, count: usize, out: &mut K) -> Result<(), SinkFault>
+fn write_limit<K: Sink>(nodes: u8, loops: u16, count: u32, out: &mut K) -> Result<(), SinkFault>
     ensures { LineEnds (storm_line nodes loops (limit_end count)) (K.seen out.old) (K.seen out.new) result }
 {
     let mut first = Buffer::new();
@@ -125,26 +106,22 @@ fn write_limit<K: Sink>(nodes: u8, loops: u16, count: usize, out: &mut K) -> Res
     )
 }
 
-/// Writes the line of a storm whose run has ended, and answers whether it ended quiet.
+/// Writes the line of a storm whose run has ended, by the tally of its events, and answers whether it ended quiet.
 fn write_storm<K: Sink>(
     nodes: u8,
     loops: u16,
     machine: &Machine,
-    events: &[Event],
+    tally: Tally,
     out: &mut K,
 ) -> Result<bool, RunFault>
     requires { WasMade machine.now }
-    ensures { TextEnds (storm_text nodes loops (machine_of machine.now, events.now)) (is_quiet (machine_of machine.now)) (K.seen out.old) (K.seen out.new) result }
+    ensures { (events : List (Event Note)) → tally.events ≡ length events → tally.moves ≡ moves_of events → TextEnds (storm_text nodes loops (machine_of machine.now, events)) (is_quiet (machine_of machine.now)) (K.seen out.old) (K.seen out.new) result }
 {
     if machine.quiet() {
         let sum = storm_sum(machine);
-        let moves = count_moves(events);
-        return answer(
-            write_quiet(nodes, loops, sum, moves, events.len(), out),
-            true,
-        );
+        return answer(write_quiet(nodes, loops, sum, tally, out), true);
     }
-    answer(write_limit(nodes, loops, events.len(), out), false)
+    answer(write_limit(nodes, loops, tally.events, out), false)
 }
 
 /// The answer to how the writing of a line ended.
@@ -159,7 +136,7 @@ fn answer(written: Result<(), SinkFault>, quiet: bool) -> Result<bool, RunFault>
 }
 
 /// Simulates the storm of a number, of so many loops of each hart, for so many events at most; writes its line, and answers whether it
-/// ended quiet.
+/// ended quiet. Its events are counted and not kept, so that its memory doesn't grow.
 pub fn print_storm<K: Sink>(
     alloc: Global,
     number: u64,
@@ -173,6 +150,6 @@ pub fn print_storm<K: Sink>(
 {
     let image = storm_image(alloc, number, loops, settings.nodes)?;
     let mut machine = place_machine(alloc, &image, settings)?;
-    let events = advance(alloc, &image, &mut machine, number, most)?;
-    write_storm(settings.nodes, loops, &machine, &events, out)
+    let tally = survey(&image, &mut machine, number, most);
+    write_storm(settings.nodes, loops, &machine, tally, out)
 }

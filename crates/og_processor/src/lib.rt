@@ -191,10 +191,22 @@ impl Processor {
         if self.request.is_some() || self.walk.is_some() {
             return Err(NotEnabled::Outstanding);
         }
-        if self.is_blocked_by(self.hart.next(image)) {
+        if self.is_next_blocked(image) {
             return Err(NotEnabled::VictimBusy);
         }
         Ok(())
+    }
+
+    /// Whether what the hart needs next asks for a request that can't be sent. With a free victim slot nothing does, and the need isn't
+    /// looked for.
+    fn is_next_blocked(&self, image: &Image) -> bool
+        requires { self.now.hart.cause ≡ None }
+        ensures { result ≡ is_blocked_by self.now (need_of image.now self.now.hart) }
+    {
+        if self.victim.is_free() {
+            return false;
+        }
+        self.is_blocked_by(self.hart.next(image))
     }
 
     /// Whether a need asks for a request that can't be sent.
