@@ -22,7 +22,9 @@ use Rattle.og_node.specs.Kept.{KeptNode, node_of}
 use Rattle.og_node.specs.Node.{act_of as node_act}
 use Rattle.og_mover.specs.Table.{MoverState, has_act, act_of as mover_act}
 use Rattle.og_machine.specs.Machine.{ActorState, mover_may, by_node, by_mover, refusal_by, refusal_of}
-use Rattle.og_engine.specs.Marks.{AreMarked, is_marked, is_ready, is_running_by}
+use Rattle.og_choices.specs.Marks.{is_marked}
+use Rattle.og_choices.specs.Choices.{Offer}
+use Rattle.og_engine.specs.Marks.{AreMarked, is_ready, is_running_by}
 use Rattle.og_engine.specs.Kept.{KeptMachine, IsMade, Moves, HaveRoom, machine_of, setup_in, node_seat, mover_seat}
 use Rattle.og_stores.proofs.Machines.{lines_are_low}
 use Rattle.og_engine.proofs.Bits.{get_changed, marked_again}
@@ -67,11 +69,11 @@ pub node_act_room : (image : ImageState) (kept : KeptMachine) (a : ℕ) (x : Sea
     HaveRoom a x.next (node_act image (node_of x.local)).letters kept.flight
 node_act_room image kept a x made young there may = have_room image kept (Act a) a None (node_seat x) (by_node (node_act image (node_of x.local))) made young (node_moves image kept a x there may)
 
-pub node_acted : (image : ImageState) (kept : KeptMachine) (a : ℕ) (x y : Seat KeptNode) (flight : Flying Kind) (event : Event Note) (ready running : ℕ) → IsMade image kept → slice_get kept.nodes a ≡ Some x → may_act image x.local.processor ≡ Ok tt →
-    Moves a None (by_node (node_act image (node_of x.local))) (node_seat x) (node_seat y) kept.flight flight event → AreMarked image (slice_set kept.nodes a y) ready running →
-    Stepped image kept (Act a) (record kept { nodes = slice_set kept.nodes a y; flight = flight; events = kept.events + 1; ready = ready; running = running }) event
-node_acted image kept a x y flight event ready running made there may moves marked =
-    let new : KeptMachine = record kept { nodes = slice_set kept.nodes a y; flight = flight; events = kept.events + 1; ready = ready; running = running } in
+pub node_acted : (image : ImageState) (kept : KeptMachine) (a : ℕ) (x y : Seat KeptNode) (flight : Flying Kind) (event : Event Note) (ready running : ℕ) (last : Bool) → IsMade image kept → slice_get kept.nodes a ≡ Some x → may_act image x.local.processor ≡ Ok tt →
+    Moves a None (by_node (node_act image (node_of x.local))) (node_seat x) (node_seat y) kept.flight flight event → AreMarked image (slice_set kept.nodes a y) ready running → last ≡ kept.mover_ready →
+    Stepped image kept (Act a) (record kept { nodes = slice_set kept.nodes a y; flight = flight; events = kept.events + 1; ready = ready; mover_ready = last; running = running }) event
+node_acted image kept a x y flight event ready running last made there may moves marked last_is =
+    let new : KeptMachine = record kept { nodes = slice_set kept.nodes a y; flight = flight; events = kept.events + 1; ready = ready; mover_ready = last; running = running } in
     let is : IsMove image kept (Act a) a None (node_seat x) (by_node (node_act image (node_of x.local))) = node_moves image kept a x there may in
     let after : IsAfter kept a None (by_node (node_act image (node_of x.local))) (node_seat x) event new = record {
       seat = node_seat y;
@@ -83,7 +85,7 @@ node_acted image kept a x y flight event ready running made there may moves mark
     record {
       free = act_refused (setup_in image kept) (machine_of kept) a (node_seat x) (node_sits kept a x there) ∙ ap refusal_by may;
       step = step_is image kept (Act a) a None (node_seat x) (by_node (node_act image (node_of x.local))) event new is after;
-      made = stays_made image kept (Act a) a None (node_seat x) (by_node (node_act image (node_of x.local))) event new made is after marked;
+      made = stays_made image kept (Act a) a None (node_seat x) (by_node (node_act image (node_of x.local))) event new made is after marked (last_is ∙ made.2.mover_mark);
     }
 
 pub node_refused : (image : ImageState) (kept : KeptMachine) (a : ℕ) (x : Seat KeptNode) (why : NotEnabled) → slice_get kept.nodes a ≡ Some x → may_act image x.local.processor ≡ Err why → Some why ≡ refusal_of (setup_in image kept) (machine_of kept) (Act a)
@@ -100,11 +102,11 @@ mover_moves image kept a is can = act_is image kept a (mover_seat kept.mover) (m
 pub mover_act_room : (image : ImageState) (kept : KeptMachine) (a : ℕ) → IsMade image kept → kept.events < 2 ^ 55 → a ≡ length kept.nodes → IsTrue (has_act kept.mover.local.job) → HaveRoom a kept.mover.next (mover_act kept.mover.local).letters kept.flight
 mover_act_room image kept a made young is can = have_room image kept (Act a) a None (mover_seat kept.mover) (by_mover (mover_act kept.mover.local)) made young (mover_moves image kept a is can)
 
-pub mover_acted : (image : ImageState) (kept : KeptMachine) (a : ℕ) (y : Seat MoverState) (flight : Flying Kind) (event : Event Note) → IsMade image kept → a ≡ length kept.nodes → IsTrue (has_act kept.mover.local.job) →
-    Moves a None (by_mover (mover_act kept.mover.local)) (mover_seat kept.mover) (mover_seat y) kept.flight flight event →
-    Stepped image kept (Act a) (record kept { mover = y; flight = flight; events = kept.events + 1 }) event
-mover_acted image kept a y flight event made at can moves =
-    let new : KeptMachine = record kept { mover = y; flight = flight; events = kept.events + 1 } in
+pub mover_acted : (image : ImageState) (kept : KeptMachine) (a : ℕ) (y : Seat MoverState) (flight : Flying Kind) (event : Event Note) (ready : ℕ) (last : Bool) → IsMade image kept → a ≡ length kept.nodes → IsTrue (has_act kept.mover.local.job) →
+    Moves a None (by_mover (mover_act kept.mover.local)) (mover_seat kept.mover) (mover_seat y) kept.flight flight event → ready ≡ kept.ready → last ≡ has_act y.local.job →
+    Stepped image kept (Act a) (record kept { mover = y; flight = flight; events = kept.events + 1; ready = ready; mover_ready = last }) event
+mover_acted image kept a y flight event ready last made at can moves ready_is last_is =
+    let new : KeptMachine = record kept { mover = y; flight = flight; events = kept.events + 1; ready = ready; mover_ready = last } in
     let is : IsMove image kept (Act a) a None (mover_seat kept.mover) (by_mover (mover_act kept.mover.local)) = mover_moves image kept a at can in
     let after : IsAfter kept a None (by_mover (mover_act kept.mover.local)) (mover_seat kept.mover) event new = record {
       seat = mover_seat y;
@@ -116,7 +118,7 @@ mover_acted image kept a y flight event made at can moves =
     record {
       free = act_refused (setup_in image kept) (machine_of kept) a (mover_seat kept.mover) (mover_sits kept a at) ∙ ap refusal_by (mover_can (has_act kept.mover.local.job) can);
       step = step_is image kept (Act a) a None (mover_seat kept.mover) (by_mover (mover_act kept.mover.local)) event new is after;
-      made = stays_made image kept (Act a) a None (mover_seat kept.mover) (by_mover (mover_act kept.mover.local)) event new made is after made.2.marks;
+      made = stays_made image kept (Act a) a None (mover_seat kept.mover) (by_mover (mover_act kept.mover.local)) event new made is after (subst (λ (word : ℕ). AreMarked image kept.nodes word kept.running) (sym ready_is) made.2.marks) last_is;
     }
 
 pub mover_refused : (image : ImageState) (kept : KeptMachine) (a : ℕ) → a ≡ length kept.nodes → has_act kept.mover.local.job ≡ false → Some NothingToDo ≡ refusal_of (setup_in image kept) (machine_of kept) (Act a)
@@ -164,17 +166,17 @@ read_back xs a y z lt is =
     same_seat (slice_set xs a y) a z y found there
 
 -- the marks after an event of the node at a place, which is then read again
-pub marked_back : (image : ImageState) (kept old : KeptMachine) (at actor : ℕ) (y z : Seat KeptNode) (may : Result (Unit {0}) NotEnabled) (on runs : Bool) (ready running : ℕ) → kept ≡ old → IsMade image old → at ≡ actor → actor < length old.nodes →
-    z ≡ get_or (slice_set kept.nodes at y) at z → may ≡ may_act image z.local.processor → on ≡ is_ok may → runs ≡ is_running_by may →
-    ((k : ℕ) → is_marked ready k ≡ (if nat_eq k actor then on else is_marked kept.ready k)) → ((k : ℕ) → is_marked running k ≡ (if nat_eq k actor then runs else is_marked kept.running k)) →
+pub marked_back : (image : ImageState) (kept old : KeptMachine) (at actor : ℕ) (y z : Seat KeptNode) (may : Result (Unit {0}) NotEnabled) (on runs : Bool) (before ready running : ℕ) → kept ≡ old → IsMade image old → at ≡ actor → actor < length old.nodes →
+    z ≡ get_or (slice_set kept.nodes at y) at z → may ≡ may_act image z.local.processor → on ≡ is_ok may → runs ≡ is_running_by may → before ≡ kept.ready →
+    ((k : ℕ) → is_marked ready k ≡ (if nat_eq k actor then on else is_marked before k)) → ((k : ℕ) → is_marked running k ≡ (if nat_eq k actor then runs else is_marked kept.running k)) →
     AreMarked image (slice_set kept.nodes at y) ready running
-marked_back image kept old at actor y z may on runs ready running is made at_is lt read may_is on_is runs_is ready_is running_is =
+marked_back image kept old at actor y z may on runs before ready running is made at_is lt read may_is on_is runs_is before_is ready_is running_is =
     let here : actor < length kept.nodes = subst (λ (m : KeptMachine). actor < length m.nodes) (sym is) lt in
     let inside : at < length kept.nodes = omega arith in
     let same : z ≡ y = read_back kept.nodes at y z inside read in
     marked_again image kept.nodes at y may kept.ready kept.running ready running (made_as image kept old is made).2.marks inside
     (may_is ∙ ap (λ (x : Seat KeptNode). may_act image x.local.processor) same)
-    (λ k. ready_is k ∙ ap (λ (a : ℕ). if nat_eq k a then on else is_marked kept.ready k) (sym at_is) ∙ ap (λ (t : Bool). if nat_eq k at then t else is_marked kept.ready k) on_is)
+    (λ k. ready_is k ∙ ap (λ (word : ℕ). if nat_eq k actor then on else is_marked word k) before_is ∙ ap (λ (a : ℕ). if nat_eq k a then on else is_marked kept.ready k) (sym at_is) ∙ ap (λ (t : Bool). if nat_eq k at then t else is_marked kept.ready k) on_is)
     (λ k. running_is k ∙ ap (λ (a : ℕ). if nat_eq k a then runs else is_marked kept.running k) (sym at_is) ∙ ap (λ (t : Bool). if nat_eq k at then t else is_marked kept.running k) runs_is)
 
 -- a node's mark says whether it may act
@@ -183,17 +185,19 @@ pub node_marked_as : (image : ImageState) (kept old : KeptMachine) (at actor : �
 node_marked_as image kept old at actor x mark is made at_is lt read mark_is =
     mark_is ∙ ap (is_marked kept.ready) (sym at_is) ∙ (made_as image kept old is made).2.marks.ready_is at ∙ ap (is_ready image) (node_there kept old at actor x is at_is lt read)
 
--- a node's act, from what the calls give
-pub node_acted_as : (image : ImageState) (kept old : KeptMachine) (at actor : ℕ) (x seat y : Seat KeptNode) (can : Result (Unit {0}) NotEnabled) (flight : Flying Kind) (event : Event Note) (ready running : ℕ) → kept ≡ old → IsMade image old → at ≡ actor → actor < length old.nodes →
+-- a node's act, from what the calls give: its letters go into flight, and then its mark is set
+pub node_acted_as : (image : ImageState) (kept old : KeptMachine) (at actor : ℕ) (x seat y : Seat KeptNode) (can : Result (Unit {0}) NotEnabled) (sent marked : Offer Kind) (event : Event Note) (running : ℕ) → kept ≡ old → IsMade image old → at ≡ actor → actor < length old.nodes →
     x ≡ get_or kept.nodes at x → can ≡ may_act image x.local.processor → can ≡ Ok tt → seat ≡ get_or kept.nodes at seat →
-    Moves actor None (by_node (node_act image (node_of seat.local))) (node_seat seat) (node_seat y) kept.flight flight event → AreMarked image (slice_set kept.nodes at y) ready running →
-    Stepped image old (Act actor) (record kept { nodes = slice_set kept.nodes at y; flight = flight; events = kept.events + 1; ready = ready; running = running }) event
-node_acted_as image kept old at actor x seat y can flight event ready running is made at_is lt read can_is ok read_mut moves marked =
+    Moves actor None (by_node (node_act image (node_of seat.local))) (node_seat seat) (node_seat y) kept.flight sent.flight event → sent.last ≡ kept.mover_ready → marked ≡ record sent { ready = marked.ready } → AreMarked image (slice_set kept.nodes at y) marked.ready running →
+    Stepped image old (Act actor) (record kept { nodes = slice_set kept.nodes at y; flight = marked.flight; events = kept.events + 1; ready = marked.ready; mover_ready = marked.last; running = running }) event
+node_acted_as image kept old at actor x seat y can sent marked event running is made at_is lt read can_is ok read_mut moves last_is mark_is marks =
     let there : slice_get kept.nodes at ≡ Some seat = node_there kept old at actor seat is at_is lt read_mut in
     let same : x ≡ seat = same_seat kept.nodes at x seat (node_there kept old at actor x is at_is lt read) there in
     let may : may_act image seat.local.processor ≡ Ok tt = ap (λ (z : Seat KeptNode). may_act image z.local.processor) (sym same) ∙ sym can_is ∙ ok in
-    stepped_as image kept old (Act at) (Act actor) (record kept { nodes = slice_set kept.nodes at y; flight = flight; events = kept.events + 1; ready = ready; running = running }) event is (ap Act at_is)
-    (node_acted image kept at seat y flight event ready running (made_as image kept old is made) there may (subst (λ (a : ℕ). Moves a None (by_node (node_act image (node_of seat.local))) (node_seat seat) (node_seat y) kept.flight flight event) (sym at_is) moves) marked)
+    let moved : Moves actor None (by_node (node_act image (node_of seat.local))) (node_seat seat) (node_seat y) kept.flight marked.flight event =
+    subst (λ (f : Flying Kind). Moves actor None (by_node (node_act image (node_of seat.local))) (node_seat seat) (node_seat y) kept.flight f event) (sym (ap (λ (o : Offer Kind). o.flight) mark_is)) moves in
+    stepped_as image kept old (Act at) (Act actor) (record kept { nodes = slice_set kept.nodes at y; flight = marked.flight; events = kept.events + 1; ready = marked.ready; mover_ready = marked.last; running = running }) event is (ap Act at_is)
+    (node_acted image kept at seat y marked.flight event marked.ready running marked.last (made_as image kept old is made) there may (subst (λ (a : ℕ). Moves a None (by_node (node_act image (node_of seat.local))) (node_seat seat) (node_seat y) kept.flight marked.flight event) (sym at_is) moved) marks (ap (λ (o : Offer Kind). o.last) mark_is ∙ last_is))
 
 -- a node that may act, from what the calls give
 pub record MayActAt (image : ImageState) (kept : KeptMachine) (actor : ℕ) (seat : Seat KeptNode) : Type 0 where
@@ -241,12 +245,14 @@ mover_may_as image kept old actor is made young at can =
     let y : kept.events < 2 ^ 55 = young_as kept old is young in
     record { young = mover_is_young image kept m y; room = mover_act_room image kept actor m y (mover_there kept old actor is at) can }
 
-pub mover_acted_as : (image : ImageState) (kept old : KeptMachine) (actor : ℕ) (y : Seat MoverState) (flight : Flying Kind) (event : Event Note) → kept ≡ old → IsMade image old → actor ≡ length old.nodes → has_act kept.mover.local.job ≡ true →
-    Moves actor None (by_mover (mover_act kept.mover.local)) (mover_seat kept.mover) (mover_seat y) kept.flight flight event →
-    Stepped image old (Act actor) (record kept { mover = y; flight = flight; events = kept.events + 1 }) event
-mover_acted_as image kept old actor y flight event is made at can moves =
-    stepped_as image kept old (Act actor) (Act actor) (record kept { mover = y; flight = flight; events = kept.events + 1 }) event is refl
-    (mover_acted image kept actor y flight event (made_as image kept old is made) (mover_there kept old actor is at) can moves)
+pub mover_acted_as : (image : ImageState) (kept old : KeptMachine) (actor : ℕ) (y : Seat MoverState) (sent marked : Offer Kind) (event : Event Note) (can : Bool) → kept ≡ old → IsMade image old → actor ≡ length old.nodes → has_act kept.mover.local.job ≡ true →
+    Moves actor None (by_mover (mover_act kept.mover.local)) (mover_seat kept.mover) (mover_seat y) kept.flight sent.flight event → sent.ready ≡ kept.ready → marked ≡ record sent { last = can } → can ≡ has_act y.local.job →
+    Stepped image old (Act actor) (record kept { mover = y; flight = marked.flight; events = kept.events + 1; ready = marked.ready; mover_ready = marked.last }) event
+mover_acted_as image kept old actor y sent marked event can is made at has moves ready_is mark_is can_is =
+    stepped_as image kept old (Act actor) (Act actor) (record kept { mover = y; flight = marked.flight; events = kept.events + 1; ready = marked.ready; mover_ready = marked.last }) event is refl
+    (mover_acted image kept actor y marked.flight event marked.ready marked.last (made_as image kept old is made) (mover_there kept old actor is at) has
+    (subst (λ (f : Flying Kind). Moves actor None (by_mover (mover_act kept.mover.local)) (mover_seat kept.mover) (mover_seat y) kept.flight f event) (sym (ap (λ (o : Offer Kind). o.flight) mark_is)) moves)
+    (ap (λ (o : Offer Kind). o.ready) mark_is ∙ ready_is) (ap (λ (o : Offer Kind). o.last) mark_is ∙ can_is))
 
 pub mover_refused_as : (image : ImageState) (kept old : KeptMachine) (actor : ℕ) → kept ≡ old → actor ≡ length old.nodes → has_act kept.mover.local.job ≡ false → Some NothingToDo ≡ refusal_of (setup_in image old) (machine_of old) (Act actor)
 mover_refused_as image kept old actor is at none =

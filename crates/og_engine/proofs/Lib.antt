@@ -4,8 +4,7 @@ pub mod Bits
 pub mod Starts
 pub mod Acts
 pub mod Takes
-pub mod Ranks
 pub mod Counts
-pub mod Placed
+pub mod Offered
 pub mod Drains
 pub mod Lines

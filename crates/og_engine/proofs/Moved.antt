@@ -24,6 +24,7 @@ use Rattle.og_flight.proofs.Posting.{placed_length}
 use Rattle.og_msg.specs.declared.Kind.{Kind}
 use Rattle.og_msg.specs.declared.Note.{Note}
 use Rattle.og_image.specs.Image.{ImageState}
+use Rattle.og_mover.specs.Table.{has_act}
 use Rattle.og_refine.specs.Machines.{IsRunnable}
 use Rattle.og_refine.specs.Laws.{RunsTo}
 use Rattle.og_machine.specs.Machine.{Setup, setup_of, ActorState, Machine, rules, start_machine, act_of, take_of, can_act, acting, taking, has_row, refusal_by, act_refusal, message_refusal, refusal_of}
@@ -173,8 +174,8 @@ get_set P (x ∷ xs) (suc a) y zero z this all e = all zero z e
 get_set P (x ∷ xs) (suc a) y (suc b) z this all e = get_set P xs a y b z this (λ c w f. all (suc c) w f) e
 
 pub stays_made : (image : ImageState) (kept : KeptMachine) (choice : Choice) (actor : ℕ) (move : Option (Msg Kind)) (x : Seat ActorState) (made : Outcome ActorState Kind Note) (event : Event Note) (new : KeptMachine) →
-    IsMade image kept → IsMove image kept choice actor move x made → IsAfter kept actor move made x event new → AreMarked image new.nodes new.ready new.running → IsMade image new
-stays_made image kept choice actor move x made event new is_made is after marked = (
+    IsMade image kept → IsMove image kept choice actor move x made → IsAfter kept actor move made x event new → AreMarked image new.nodes new.ready new.running → new.mover_ready ≡ has_act new.mover.local.job → IsMade image new
+stays_made image kept choice actor move x made event new is_made is after marked mover_mark = (
   is_made.0 ++ choice ∷ [],
   is_made.1 ++ event ∷ [],
   record {
@@ -185,6 +186,7 @@ stays_made image kept choice actor move x made event new is_made is after marked
     room = ap (λ (f : Flying Kind). f.room) after.moves.flight ∙ is_made.2.room ∙ ap room_of (sym after.settings);
     numbers = λ a y there. get_set (λ (z : Seat ActorState). z.next ≤ 132 * new.events) (machine_of kept).seats actor (seat_after x move made) a y moved others (subst (λ (w : Machine). slice_get w.seats a ≡ Some y) (world_is kept actor move made x event new after) there);
     marks = marked;
+    mover_mark = mover_mark;
   },
 )
   where

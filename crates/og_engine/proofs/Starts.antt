@@ -1,5 +1,5 @@
 -- The machine that is kept at the start.
-use Rattle.std.proofs.Common.{◌≡◌, ◌∙◌, ℕ, zero, suc, ◌+◌, ◌*◌, ◌≤◌, arith, refl, sym, ap, subst, Some, List, [], ◌∷◌, ◌++◌, length, map}
+use Rattle.std.proofs.Common.{◌≡◌, ◌∙◌, ℕ, zero, suc, ◌+◌, ◌*◌, ◌≤◌, Bool, false, arith, refl, sym, ap, subst, Some, List, [], ◌∷◌, ◌++◌, length, map}
 use Rattle.std.proofs.lemmas.List.{map-append}
 use Rattle.std.specs.Prelude.{slice_get}
 use Rattle.og_base.specs.declared.Settings.{Settings}
@@ -13,7 +13,7 @@ use Rattle.og_image.proofs.Pages.{map_below_more}
 use Rattle.og_image.specs.Layout.{LayoutState, layout_of, pages_of}
 use Rattle.og_node.specs.Kept.{KeptNode, node_of}
 use Rattle.og_node.specs.Node.{NodeState, new_node}
-use Rattle.og_mover.specs.Table.{MoverState, first_mover}
+use Rattle.og_mover.specs.Table.{MoverState, first_mover, has_act}
 use Rattle.og_machine.specs.Machine.{Setup, setup_of, ActorState, Node, Machine, start_machine, start_node, start_mover, new_seat}
 use Rattle.og_refine.specs.Machines.{IsRunnable}
 use Rattle.og_engine.specs.Marks.{AreMarked}
@@ -25,6 +25,7 @@ pub record IsFirst (image : ImageState) (settings : Settings) (kept : KeptMachin
   pub mover : kept.mover ≡ record { local = first_mover (layout_of image) settings; clock = 0; next = 0 }
   pub flight : kept.flight ≡ record { messages = []; room = room_of settings }
   pub settings_is : kept.settings ≡ settings
+  pub mover_ready : kept.mover_ready ≡ false
   pub events : kept.events ≡ 0
 
 pub is_start : (image : ImageState) (settings : Settings) (kept : KeptMachine) → IsFirst image settings kept → machine_of kept ≡ start_machine (setup_of image settings)
@@ -71,6 +72,7 @@ runnable image settings ok = record {
 }
 
 pub first_is_made : (image : ImageState) (settings : Settings) (kept : KeptMachine) → AreSettings image settings → IsFirst image settings kept → AreMarked image kept.nodes kept.ready kept.running → IsMade image kept
+unfolding first_mover
 first_is_made image settings kept ok is marked =
     let same : setup_of image settings ≡ setup_in image kept = ap (setup_of image) (sym is.settings_is) in (
       [],
@@ -84,6 +86,7 @@ first_is_made image settings kept ok is marked =
             let none : x.next ≡ 0 = start_next (setup_of image settings) a x (subst (λ (w : Machine). slice_get w.seats a ≡ Some x) (is_start image settings kept is) there) in
             omega arith;
         marks = marked;
+        mover_mark = is.mover_ready ∙ sym (ap (λ (m : Seat MoverState). has_act m.local.job) is.mover);
       },
     )
 
@@ -97,14 +100,15 @@ pub new_node_seat : (setup : Setup) (n : ℕ) (node : KeptNode) → node_of node
 new_node_seat setup n node is = ap (λ (x : NodeState). new_seat (Node x)) is
 
 -- the parts of the start, as the calls give them
-pub first_is : (image : ImageState) (layout : LayoutState) (settings : Settings) (nodes : List (Seat KeptNode)) (mover : MoverState) (flight : Flying Kind) (room ready running : ℕ) → layout ≡ layout_of image →
+pub first_is : (image : ImageState) (layout : LayoutState) (settings : Settings) (nodes : List (Seat KeptNode)) (mover : MoverState) (flight : Flying Kind) (room ready running : ℕ) (last : Bool) → layout ≡ layout_of image →
     map node_seat nodes ≡ map (λ number. new_seat (start_node (record { image = image; layout = layout; settings = settings }) number)) (below settings.nodes) → mover ≡ first_mover layout settings →
-    flight ≡ record { messages = []; room = room } → room ≡ room_of settings →
-    IsFirst image settings (record { settings = settings; nodes = nodes; mover = record { local = mover; clock = 0; next = 0 }; flight = flight; events = 0; ready = ready; running = running })
-first_is image layout settings nodes mover flight room ready running layout_is nodes_are mover_is flight_is room_is = record {
+    flight ≡ record { messages = []; room = room } → room ≡ room_of settings → last ≡ false →
+    IsFirst image settings (record { settings = settings; nodes = nodes; mover = record { local = mover; clock = 0; next = 0 }; flight = flight; events = 0; ready = ready; mover_ready = last; running = running })
+first_is image layout settings nodes mover flight room ready running last layout_is nodes_are mover_is flight_is room_is last_is = record {
   nodes = subst (λ (l : LayoutState). map node_seat nodes ≡ map (λ number. new_seat (start_node (record { image = image; layout = l; settings = settings }) number)) (below settings.nodes)) layout_is nodes_are;
   mover = ap (λ (m : MoverState). record { local = m; clock = 0; next = 0 }) (mover_is ∙ ap (λ (l : LayoutState). first_mover l settings) layout_is);
   flight = flight_is ∙ ap (λ (n : ℕ). record { messages = []; room = n }) room_is;
   settings_is = refl;
+  mover_ready = last_is;
   events = refl;
 }

@@ -1,5 +1,5 @@
 -- The take of a message by a node, and by the mover.
-use Rattle.std.proofs.Common.{◌≡◌, ◌∙◌, ℕ, ◌+◌, ◌<◌, ◌≤◌, ◌^◌, true, arith, refl, sym, ap, subst, Option, None, Some, length, get_or}
+use Rattle.std.proofs.Common.{◌≡◌, ◌∙◌, ℕ, ◌+◌, ◌<◌, ◌≤◌, ◌^◌, Bool, true, arith, refl, sym, ap, subst, Option, None, Some, length, get_or}
 use Rattle.std.specs.Prelude.{slice_get, slice_set, IsTrue}
 use Rattle.og_base.specs.declared.NotEnabled.TheVariants.{NoActor, NoMessage}
 use Rattle.og_runs.specs.declared.Choice.TheVariants.{Take}
@@ -18,8 +18,9 @@ use Rattle.og_processor.specs.Sound.{IsSound, IsLowProcessor, IsLowKind}
 use Rattle.og_node.specs.Kept.{KeptNode, node_of}
 use Rattle.og_node.specs.Node.{HasRow, take_of as node_take}
 use Rattle.og_node.proofs.Rows.{row_told}
-use Rattle.og_mover.specs.Table.{MoverState, has_table_row, take_of as mover_take}
+use Rattle.og_mover.specs.Table.{MoverState, has_act, has_table_row, take_of as mover_take}
 use Rattle.og_machine.specs.Machine.{ActorState, rules, has_row, by_node, by_mover, refusal_of}
+use Rattle.og_choices.specs.Choices.{Offer}
 use Rattle.og_engine.specs.Marks.{AreMarked}
 use Rattle.og_engine.specs.Kept.{KeptMachine, IsMade, Moves, HaveRoom, machine_of, setup_in, node_seat, mover_seat, seats_of}
 use Rattle.og_refine.proofs.Lawful.{messages_rows}
@@ -81,12 +82,12 @@ pub take_free : (image : ImageState) (kept : KeptMachine) (a : ℕ) (id : MsgId)
 unfolding machine_of
 take_free image kept a id message x found there = take_refused (setup_in image kept) (machine_of kept) a id x there ∙ ap refusal_for found
 
-pub node_took : (image : ImageState) (kept : KeptMachine) (a : ℕ) (id : MsgId) (message : Msg Kind) (x y : Seat KeptNode) (flight : Flying Kind) (event : Event Note) (ready running : ℕ) → IsMade image kept → found_for a id kept.flight.messages ≡ Some message → slice_get kept.nodes a ≡ Some x →
-    Moves message.to (Some message) (by_node (node_take image (node_of x.local) message)) (node_seat x) (node_seat y) (left_after (Some message) kept.flight) flight event → AreMarked image (slice_set kept.nodes a y) ready running →
-    Stepped image kept (Take a id) (record kept { nodes = slice_set kept.nodes a y; flight = flight; events = kept.events + 1; ready = ready; running = running }) event
-node_took image kept a id message x y flight event ready running made found there moves marked =
+pub node_took : (image : ImageState) (kept : KeptMachine) (a : ℕ) (id : MsgId) (message : Msg Kind) (x y : Seat KeptNode) (flight : Flying Kind) (event : Event Note) (ready running : ℕ) (last : Bool) → IsMade image kept → found_for a id kept.flight.messages ≡ Some message → slice_get kept.nodes a ≡ Some x →
+    Moves message.to (Some message) (by_node (node_take image (node_of x.local) message)) (node_seat x) (node_seat y) (left_after (Some message) kept.flight) flight event → AreMarked image (slice_set kept.nodes a y) ready running → last ≡ kept.mover_ready →
+    Stepped image kept (Take a id) (record kept { nodes = slice_set kept.nodes a y; flight = flight; events = kept.events + 1; ready = ready; mover_ready = last; running = running }) event
+node_took image kept a id message x y flight event ready running last made found there moves marked last_is =
     let is : IsFound kept a id message = is_found kept a id message found in
-    let new : KeptMachine = record kept { nodes = slice_set kept.nodes a y; flight = flight; events = kept.events + 1; ready = ready; running = running } in
+    let new : KeptMachine = record kept { nodes = slice_set kept.nodes a y; flight = flight; events = kept.events + 1; ready = ready; mover_ready = last; running = running } in
     let outcome = by_node (node_take image (node_of x.local) message) in
     let move : IsMove image kept (Take message.to id) message.to (Some message) (node_seat x) outcome = node_takes image kept a id message x made is there in
     let after : IsAfter kept message.to (Some message) outcome (node_seat x) event new = record {
@@ -99,7 +100,7 @@ node_took image kept a id message x y flight event ready running made found ther
     record {
       free = take_free image kept a id message (node_seat x) found (node_sits kept a x there);
       step = subst (λ (b : ℕ). world_step (rules (setup_in image kept)) (machine_of kept) (Take b id) ≡ Some (machine_of new, event)) is.to (step_is image kept (Take message.to id) message.to (Some message) (node_seat x) outcome event new move after);
-      made = stays_made image kept (Take message.to id) message.to (Some message) (node_seat x) outcome event new made move after marked;
+      made = stays_made image kept (Take message.to id) message.to (Some message) (node_seat x) outcome event new made move after marked (last_is ∙ made.2.mover_mark);
     }
 
 -- ---- by the mover
@@ -116,12 +117,12 @@ pub mover_take_room : (image : ImageState) (kept : KeptMachine) (a : ℕ) (id : 
     HaveRoom message.to kept.mover.next (mover_take kept.mover.local message).letters (left_after (Some message) kept.flight)
 mover_take_room image kept a id message made young is at = have_room image kept (Take message.to id) message.to (Some message) (mover_seat kept.mover) (by_mover (mover_take kept.mover.local message)) made young (mover_takes image kept a id message made is at)
 
-pub mover_took : (image : ImageState) (kept : KeptMachine) (a : ℕ) (id : MsgId) (message : Msg Kind) (y : Seat MoverState) (flight : Flying Kind) (event : Event Note) → IsMade image kept → found_for a id kept.flight.messages ≡ Some message → a ≡ length kept.nodes →
-    Moves message.to (Some message) (by_mover (mover_take kept.mover.local message)) (mover_seat kept.mover) (mover_seat y) (left_after (Some message) kept.flight) flight event →
-    Stepped image kept (Take a id) (record kept { mover = y; flight = flight; events = kept.events + 1 }) event
-mover_took image kept a id message y flight event made found at moves =
+pub mover_took : (image : ImageState) (kept : KeptMachine) (a : ℕ) (id : MsgId) (message : Msg Kind) (y : Seat MoverState) (flight : Flying Kind) (event : Event Note) (ready : ℕ) (last : Bool) → IsMade image kept → found_for a id kept.flight.messages ≡ Some message → a ≡ length kept.nodes →
+    Moves message.to (Some message) (by_mover (mover_take kept.mover.local message)) (mover_seat kept.mover) (mover_seat y) (left_after (Some message) kept.flight) flight event → ready ≡ kept.ready → last ≡ has_act y.local.job →
+    Stepped image kept (Take a id) (record kept { mover = y; flight = flight; events = kept.events + 1; ready = ready; mover_ready = last }) event
+mover_took image kept a id message y flight event ready last made found at moves ready_is last_is =
     let is : IsFound kept a id message = is_found kept a id message found in
-    let new : KeptMachine = record kept { mover = y; flight = flight; events = kept.events + 1 } in
+    let new : KeptMachine = record kept { mover = y; flight = flight; events = kept.events + 1; ready = ready; mover_ready = last } in
     let outcome = by_mover (mover_take kept.mover.local message) in
     let move : IsMove image kept (Take message.to id) message.to (Some message) (mover_seat kept.mover) outcome = mover_takes image kept a id message made is at in
     let after : IsAfter kept message.to (Some message) outcome (mover_seat kept.mover) event new = record {
@@ -134,7 +135,7 @@ mover_took image kept a id message y flight event made found at moves =
     record {
       free = take_free image kept a id message (mover_seat kept.mover) found (mover_sits kept a at);
       step = subst (λ (b : ℕ). world_step (rules (setup_in image kept)) (machine_of kept) (Take b id) ≡ Some (machine_of new, event)) is.to (step_is image kept (Take message.to id) message.to (Some message) (mover_seat kept.mover) outcome event new move after);
-      made = stays_made image kept (Take message.to id) message.to (Some message) (mover_seat kept.mover) outcome event new made move after made.2.marks;
+      made = stays_made image kept (Take message.to id) message.to (Some message) (mover_seat kept.mover) outcome event new made move after (subst (λ (word : ℕ). AreMarked image kept.nodes word kept.running) (sym ready_is) made.2.marks) last_is;
     }
 
 -- ---- in the code's own terms
@@ -184,17 +185,19 @@ node_may_take image kept old at actor id found message seat is made young at_is 
       room = node_take_room image kept at id message seat m y f there;
     }
 
-pub node_took_as : (image : ImageState) (kept old : KeptMachine) (at actor : ℕ) (id : MsgId) (found : Option (Msg Kind)) (message : Msg Kind) (seat y : Seat KeptNode) (left flight : Flying Kind) (event : Event Note) (ready running : ℕ) → kept ≡ old → IsMade image old → at ≡ actor → actor < length old.nodes →
+pub node_took_as : (image : ImageState) (kept old : KeptMachine) (at actor : ℕ) (id : MsgId) (found : Option (Msg Kind)) (message : Msg Kind) (seat y : Seat KeptNode) (left : Flying Kind) (sent marked : Offer Kind) (event : Event Note) (running : ℕ) → kept ≡ old → IsMade image old → at ≡ actor → actor < length old.nodes →
     found ≡ found_for actor id kept.flight.messages → found ≡ Some message → left ≡ record { messages = flight_after (found_for actor id kept.flight.messages) kept.flight.messages; room = kept.flight.room } → seat ≡ get_or kept.nodes at seat →
-    Moves message.to (Some message) (by_node (node_take image (node_of seat.local) message)) (node_seat seat) (node_seat y) left flight event → AreMarked image (slice_set kept.nodes at y) ready running →
-    Stepped image old (Take actor id) (record kept { nodes = slice_set kept.nodes at y; flight = flight; events = kept.events + 1; ready = ready; running = running }) event
-node_took_as image kept old at actor id found message seat y left flight event ready running is made at_is lt found_is some left_is read moves marked =
+    Moves message.to (Some message) (by_node (node_take image (node_of seat.local) message)) (node_seat seat) (node_seat y) left sent.flight event → sent.last ≡ kept.mover_ready → marked ≡ record sent { ready = marked.ready } → AreMarked image (slice_set kept.nodes at y) marked.ready running →
+    Stepped image old (Take actor id) (record kept { nodes = slice_set kept.nodes at y; flight = marked.flight; events = kept.events + 1; ready = marked.ready; mover_ready = marked.last; running = running }) event
+node_took_as image kept old at actor id found message seat y left sent marked event running is made at_is lt found_is some left_is read moves last_is mark_is marks =
     let there : slice_get kept.nodes at ≡ Some seat = node_there kept old at actor seat is at_is lt read in
     let here : found_for actor id kept.flight.messages ≡ Some message = sym found_is ∙ some in
     let rest : left ≡ left_after (Some message) kept.flight = left_is ∙ ap (λ (o : Option (Msg Kind)). left_after o kept.flight) here in
-    stepped_as image kept old (Take at id) (Take actor id) (record kept { nodes = slice_set kept.nodes at y; flight = flight; events = kept.events + 1; ready = ready; running = running }) event is (ap (λ (a : ℕ). Take a id) at_is)
-    (node_took image kept at id message seat y flight event ready running (made_as image kept old is made) (subst (λ (a : ℕ). found_for a id kept.flight.messages ≡ Some message) (sym at_is) here) there
-    (subst (λ (f : Flying Kind). Moves message.to (Some message) (by_node (node_take image (node_of seat.local) message)) (node_seat seat) (node_seat y) f flight event) rest moves) marked)
+    let moved : Moves message.to (Some message) (by_node (node_take image (node_of seat.local) message)) (node_seat seat) (node_seat y) left marked.flight event =
+    subst (λ (f : Flying Kind). Moves message.to (Some message) (by_node (node_take image (node_of seat.local) message)) (node_seat seat) (node_seat y) left f event) (sym (ap (λ (o : Offer Kind). o.flight) mark_is)) moves in
+    stepped_as image kept old (Take at id) (Take actor id) (record kept { nodes = slice_set kept.nodes at y; flight = marked.flight; events = kept.events + 1; ready = marked.ready; mover_ready = marked.last; running = running }) event is (ap (λ (a : ℕ). Take a id) at_is)
+    (node_took image kept at id message seat y marked.flight event marked.ready running marked.last (made_as image kept old is made) (subst (λ (a : ℕ). found_for a id kept.flight.messages ≡ Some message) (sym at_is) here) there
+    (subst (λ (f : Flying Kind). Moves message.to (Some message) (by_node (node_take image (node_of seat.local) message)) (node_seat seat) (node_seat y) f marked.flight event) rest moved) marks (ap (λ (o : Offer Kind). o.last) mark_is ∙ last_is))
 
 -- what the take of a message by the mover needs
 pub record MoverMayTake (kept : KeptMachine) (message : Msg Kind) : Type 0 where
@@ -215,17 +218,20 @@ mover_may_take image kept old actor id found message is made young at found_is s
       room = mover_take_room image kept actor id message m y f here;
     }
 
-pub mover_took_as : (image : ImageState) (kept old : KeptMachine) (actor : ℕ) (id : MsgId) (found : Option (Msg Kind)) (message : Msg Kind) (y : Seat MoverState) (left flight : Flying Kind) (event : Event Note) → kept ≡ old → IsMade image old → actor ≡ length old.nodes →
+pub mover_took_as : (image : ImageState) (kept old : KeptMachine) (actor : ℕ) (id : MsgId) (found : Option (Msg Kind)) (message : Msg Kind) (y : Seat MoverState) (left : Flying Kind) (sent marked : Offer Kind) (event : Event Note) (can : Bool) → kept ≡ old → IsMade image old → actor ≡ length old.nodes →
     found ≡ found_for actor id kept.flight.messages → found ≡ Some message → left ≡ record { messages = flight_after (found_for actor id kept.flight.messages) kept.flight.messages; room = kept.flight.room } →
-    Moves message.to (Some message) (by_mover (mover_take kept.mover.local message)) (mover_seat kept.mover) (mover_seat y) left flight event →
-    Stepped image old (Take actor id) (record kept { mover = y; flight = flight; events = kept.events + 1 }) event
-mover_took_as image kept old actor id found message y left flight event is made at found_is some left_is moves =
+    Moves message.to (Some message) (by_mover (mover_take kept.mover.local message)) (mover_seat kept.mover) (mover_seat y) left sent.flight event → sent.ready ≡ kept.ready → marked ≡ record sent { last = can } → can ≡ has_act y.local.job →
+    Stepped image old (Take actor id) (record kept { mover = y; flight = marked.flight; events = kept.events + 1; ready = marked.ready; mover_ready = marked.last }) event
+mover_took_as image kept old actor id found message y left sent marked event can is made at found_is some left_is moves ready_is mark_is can_is =
     let there : actor ≡ length kept.nodes = subst (λ (m : KeptMachine). actor ≡ length m.nodes) (sym is) at in
     let here : found_for actor id kept.flight.messages ≡ Some message = sym found_is ∙ some in
     let rest : left ≡ left_after (Some message) kept.flight = left_is ∙ ap (λ (o : Option (Msg Kind)). left_after o kept.flight) here in
-    stepped_as image kept old (Take actor id) (Take actor id) (record kept { mover = y; flight = flight; events = kept.events + 1 }) event is refl
-    (mover_took image kept actor id message y flight event (made_as image kept old is made) here there
-    (subst (λ (f : Flying Kind). Moves message.to (Some message) (by_mover (mover_take kept.mover.local message)) (mover_seat kept.mover) (mover_seat y) f flight event) rest moves))
+    let moved : Moves message.to (Some message) (by_mover (mover_take kept.mover.local message)) (mover_seat kept.mover) (mover_seat y) left marked.flight event =
+    subst (λ (f : Flying Kind). Moves message.to (Some message) (by_mover (mover_take kept.mover.local message)) (mover_seat kept.mover) (mover_seat y) left f event) (sym (ap (λ (o : Offer Kind). o.flight) mark_is)) moves in
+    stepped_as image kept old (Take actor id) (Take actor id) (record kept { mover = y; flight = marked.flight; events = kept.events + 1; ready = marked.ready; mover_ready = marked.last }) event is refl
+    (mover_took image kept actor id message y marked.flight event marked.ready marked.last (made_as image kept old is made) here there
+    (subst (λ (f : Flying Kind). Moves message.to (Some message) (by_mover (mover_take kept.mover.local message)) (mover_seat kept.mover) (mover_seat y) f marked.flight event) rest moved)
+    (ap (λ (o : Offer Kind). o.ready) mark_is ∙ ready_is) (ap (λ (o : Offer Kind). o.last) mark_is ∙ can_is))
 
 pub nobody_takes : (image : ImageState) (old : KeptMachine) (actor : ℕ) (id : MsgId) → length old.nodes < actor → Some NoActor ≡ refusal_of (setup_in image old) (machine_of old) (Take actor id)
 nobody_takes image old actor id lt = sym (no_actor_takes (setup_in image old) (machine_of old) actor id (nobody_sits old actor lt))

@@ -1,5 +1,5 @@
 -- How a machine is kept, which machine it is, and what is known of one that choices from the start lead to.
-use Rattle.std.specs.Prelude.{◌≡◌, ℕ, ◌+◌, ◌*◌, ◌≤◌, ◌<◌, ◌^◌, Option, None, Some, List, [], ◌∷◌, ◌++◌, length, map, slice_get}
+use Rattle.std.specs.Prelude.{◌≡◌, ℕ, ◌+◌, ◌*◌, ◌≤◌, ◌<◌, ◌^◌, Bool, Option, None, Some, List, [], ◌∷◌, ◌++◌, length, map, slice_get}
 use Rattle.og_base.specs.declared.Settings.{Settings}
 use Rattle.og_runs.specs.declared.Choice.{Choice}
 use Rattle.og_runs.specs.declared.Event.{Event}
@@ -9,18 +9,19 @@ use Rattle.og_runs.specs.declared.Seat.{Seat}
 use Rattle.og_runs.specs.Runs.{Outcome, posted, clock_after, event_of}
 use Rattle.og_runs.specs.World.{find, placed_all, seat_after}
 use Rattle.og_flight.specs.Flight.{Flying}
+use Rattle.og_choices.specs.Choices.{Offer}
 use Rattle.og_msg.specs.declared.Kind.{Kind}
 use Rattle.og_msg.specs.declared.Note.{Note}
 use Rattle.og_image.specs.Image.{ImageState}
 use Rattle.og_node.specs.Kept.{KeptNode, node_of}
-use Rattle.og_mover.specs.Table.{MoverState}
+use Rattle.og_mover.specs.Table.{MoverState, has_act}
 use Rattle.og_machine.specs.Machine.{Setup, setup_of, ActorState, Node, Mover, Machine}
 use Rattle.og_refine.specs.Machines.{IsRunnable}
 use Rattle.og_refine.specs.Laws.{RunsTo}
 use Rattle.og_engine.specs.Marks.{AreMarked}
 
--- each node at its seat, the mover at its own, the messages in flight, how many events were made, and two words of marks: of the
--- nodes that may act, and of those whose hart hasn't stopped
+-- each node at its seat, the mover at its own, the messages in flight, how many events were made, the nodes that may act as a word of
+-- marks, whether the mover may, and the nodes whose hart hasn't stopped as a second word
 pub record KeptMachine : Type 0 where
   pub settings : Settings
   pub nodes : List (Seat KeptNode)
@@ -28,6 +29,7 @@ pub record KeptMachine : Type 0 where
   pub flight : Flying Kind
   pub events : ℕ
   pub ready : ℕ
+  pub mover_ready : Bool
   pub running : ℕ
 
 -- the same seat, with what is kept of its actor as an actor
@@ -43,6 +45,10 @@ seats_of nodes mover = map node_seat nodes ++ mover_seat mover ∷ []
 -- the machine that is kept: the nodes, behind them the mover, and the messages in flight
 unfoldable pub machine_of : KeptMachine → Machine
 machine_of kept = record { seats = seats_of kept.nodes kept.mover; flight = kept.flight.messages }
+
+-- the choices that it offers
+abbrev pub offer_of : KeptMachine → Offer Kind
+offer_of kept = record { flight = kept.flight; nodes = kept.settings.nodes; ready = kept.ready; last = kept.mover_ready }
 
 -- its setup, in a run of the program
 abbrev pub setup_in : ImageState → KeptMachine → Setup
@@ -60,6 +66,7 @@ pub record MadeBy (image : ImageState) (kept : KeptMachine) (choices : List Choi
   pub room : kept.flight.room ≡ room_of kept.settings
   pub numbers : (a : ℕ) (x : Seat ActorState) → slice_get (machine_of kept).seats a ≡ Some x → x.next ≤ 132 * kept.events
   pub marks : AreMarked image kept.nodes kept.ready kept.running
+  pub mover_mark : kept.mover_ready ≡ has_act kept.mover.local.job
 
 -- some choices lead from the start of the program to the machine
 abbrev pub IsMade : ImageState → KeptMachine → Type 0

@@ -1,22 +1,13 @@
 -- A mark for each node in one word: what the marks say of the nodes that are kept.
-use Rattle.std.specs.Prelude.{◌≡◌, ℕ, zero, suc, ◌+◌, Bool, true, false, nat_eq, Option, None, Some, Result, Err, is_none, List, slice_get, if◌then◌else◌}
+use Rattle.std.specs.Prelude.{◌≡◌, ℕ, Bool, true, false, Option, None, Some, Result, Err, is_none, List, slice_get}
 use Rattle.std.specs.Result.{is_ok}
 use Rattle.og_base.specs.declared.NotEnabled.{NotEnabled}
 use Rattle.og_base.specs.declared.NotEnabled.TheVariants.{Stopped}
-use Rattle.std.specs.Int.{bit_at}
 use Rattle.og_runs.specs.declared.Seat.{Seat}
 use Rattle.og_image.specs.Image.{ImageState}
 use Rattle.og_processor.specs.Act.{may_act}
 use Rattle.og_node.specs.Kept.{KeptNode}
-
--- bit k of the word is set
-abbrev pub is_marked : ℕ → ℕ → Bool
-is_marked word k = nat_eq (bit_at word k) 1
-
--- how many of the first a bits are set
-unfoldable pub marks_below : ℕ → ℕ → ℕ
-marks_below word zero = 0
-marks_below word (suc a) = marks_below word a + (if is_marked word a then 1 else 0)
+use Rattle.og_choices.specs.Marks.{is_marked}
 
 -- the node there may act
 abbrev pub is_ready : ImageState → Option (Seat KeptNode) → Bool

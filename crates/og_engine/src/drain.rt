@@ -19,10 +19,10 @@ impl Machine {
         requires made { WasMade self.now }
         ensures { (setup : Setup) → result ≡ drain_of setup (machine_of self.now) }
     {
-        if let Some(message) = first_answer(&self.flight) {
+        if let Some(message) = first_answer(self.choices.flight()) {
             return Some(Choice::Take(message.to, message.id));
         }
-        if let Some(message) = self.flight.least() {
+        if let Some(message) = self.choices.flight().least() {
             return Some(Choice::Take(message.to, message.id));
         }
         if self.mover.local.can_act() {

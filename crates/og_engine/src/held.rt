@@ -119,8 +119,9 @@ impl Machine {
     fn first_carried(&self, block: Block) -> Option<Line>
         ensures { result ≡ first_of (λ m. carried block m.kind) self.now.flight.messages }
     {
-        for at in 0..self.flight.len() {
-            let line = carried_by(&self.flight.select(at).kind, block);
+        let flight = self.choices.flight();
+        for at in 0..flight.len() {
+            let line = carried_by(&flight.select(at).kind, block);
             if line.is_some() {
                 return line;
             }

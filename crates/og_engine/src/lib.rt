@@ -1,15 +1,14 @@
 //! The machine of all actors, in code: it starts, makes one event after another, and answers what may happen next.
 //! It shows the line that it holds for a block of a page, and the byte that it holds at an address.
 //!
-//! Below stand the machine as it is defined (`og_machine`), its actors in code (`og_node`, `og_mover`), the index of messages in
-//! flight (`og_flight`), and what holds of every machine that a run leads to (`og_refine`, `og_stores`): each message has its row, so a
+//! Below stand the machine as it is defined (`og_machine`), its actors in code (`og_node`, `og_mover`), the index of the enabled
+//! choices (`og_choices`), and what holds of every machine that a run leads to (`og_refine`, `og_stores`): each message has its row, so a
 //! take never fails, there are never more messages than room, and no line has seen more stores than there were events. Above stand the
 //! commands.
 //!
 //! `specs/Kept` says how a machine is kept, which machine of `og_machine` that is, and what is known of one that choices from the start
 //! lead to: the table kept here is that machine's step, its enabled choices and its drain. All memory is taken by [`Machine::start`]. An
-//! event takes none, and changes one actor in its place: which nodes may act and which harts run is kept in two words, a bit for each
-//! node.
+//! event takes none, and changes one actor in its place, its mark among the choices, and a bit that says whether its hart runs.
 #![tactic(auto)]
 
 ghost use Rattle.std.specs.Prelude.{◌≡◌, ◌*◌, ◌≤◌, length, map, IfOk};
@@ -22,12 +21,11 @@ ghost use Rattle.og_engine.specs.Marks.{AreMarked, is_running_by};
 pub mod choices;
 pub mod drain;
 pub mod held;
-mod marks;
 pub mod step;
 
-use crate::marks::with_mark;
 use og_base::{NoMemory, NodeId, NotEnabled, Settings, room};
-use og_flight::Flight;
+use og_choices::Choices;
+use og_choices::marks::with_mark;
 use og_image::{Image, Layout};
 use og_mover::Mover;
 use og_msg::{Kind, Outbox};
@@ -42,17 +40,18 @@ pub struct Machine {
     settings: Settings,
     nodes: Vec<Seat<Node>>,
     mover: Seat<Mover>,
-    flight: Flight<Kind>,
+    // The messages in flight, and who may act: the enabled choices.
+    choices: Choices<Kind>,
     // The letters of the event that is being made.
     out: Outbox,
     // How many events were made.
     events: u64,
-    // The nodes that may act, and those whose hart hasn't stopped: a bit for each.
-    ready: u128,
+    // The nodes whose hart hasn't stopped: a bit for each.
     running: u128,
 }
 
 impl Model for Machine {
+    ghost use Rattle.std.specs.Prelude.{◌≡◌};
     ghost use Rattle.std.specs.Coded.{codes};
     ghost use Rattle.og_node.specs.contracts.Node as node_code;
     ghost use Rattle.og_mover.specs.contracts.Mover as mover_code;
@@ -63,7 +62,9 @@ impl Model for Machine {
 
     ghost coded = { Prim.hlevel (codes, node_code.the_row.coded, mover_code.the_row.coded) };
 
-    ghost view = { λ m. record { settings = m.settings; nodes = m.nodes.items; mover = m.mover; flight = m.flight; events = m.events; ready = m.ready; running = m.running } };
+    ghost view = { λ m. record { settings = m.settings; nodes = m.nodes.items; mover = m.mover; flight = m.choices.flight; events = m.events; ready = m.choices.ready; mover_ready = m.choices.last; running = m.running } };
+
+    ghost invariant = { λ m. m.choices.nodes ≡ m.settings.nodes };
 }
 
 /// The seats of all nodes at the start.
@@ -88,19 +89,21 @@ fn start_nodes(
     Ok(seats)
 }
 
-/// The marks of the nodes at the start.
-fn first_marks(nodes: &[Seat<Node>], image: &Image) -> (u128, u128)
+/// Marks the nodes that may act at the start, and returns the marks of those whose hart runs.
+fn first_marks(choices: &mut Choices<Kind>, nodes: &[Seat<Node>], image: &Image) -> u128
     requires few { length nodes.now ≤ 128 }
-    ensures { AreMarked image.now nodes.now result.0 result.1 }
+    requires nodes { choices.old.nodes ≡ length nodes.now }
+    requires none { choices.old.ready ≡ 0 }
+    ensures marks { AreMarked image.now nodes.now choices.new.ready result }
+    ensures same { choices.new ≡ record choices.old { ready = choices.new.ready } }
 {
-    let mut ready = 0;
     let mut running = 0;
     for at in 0..nodes.len() {
         let may = nodes[at].local.can_act(image);
-        ready = with_mark(ready, at as NodeId, may.is_ok());
+        choices.mark(at as NodeId, may.is_ok());
         running = with_mark(running, at as NodeId, runs(may));
     }
-    (ready, running)
+    running
 }
 
 /// Whether a hart still runs, by whether its node may act.
@@ -132,21 +135,20 @@ impl Machine {
         image.stays_loadable();
         og_pager::laws::layout_suits();
         let nodes = start_nodes(alloc, image, layout, settings)?;
-        let (ready, running) = first_marks(&nodes, image);
         let mover = Seat {
             local: Mover::make(alloc, layout, settings)?,
             clock: 0,
             next: 0,
         };
-        let flight = Flight::make(alloc, room(settings) as usize)?;
+        let mut choices = Choices::make(alloc, room(settings) as usize, settings.nodes)?;
+        let running = first_marks(&mut choices, &nodes, image);
         Ok(Machine {
             settings: *settings,
             nodes,
             mover,
-            flight,
+            choices,
             out: Outbox::empty(),
             events: 0,
-            ready,
             running,
         })
     }

@@ -12,10 +12,10 @@ ghost use Rattle.og_processor.specs.Sound.{IsSound, IsLowProcessor, IsLowKind};
 ghost use Rattle.og_machine.specs.Machine.{rules, refusal_of, by_node, by_mover};
 ghost use Rattle.og_engine.specs.Kept.{machine_of, setup_in, node_seat, mover_seat, IsMade, Moves, HaveRoom, with_letters};
 
-use crate::marks::{has_mark, with_mark};
 use crate::{Machine, runs};
 use og_base::{ActorId, Choice, MsgId, NotEnabled, Stamp, act_stamp, take_stamp};
-use og_flight::Flight;
+use og_choices::Choices;
+use og_choices::marks::with_mark;
 use og_image::Image;
 use og_mover::Mover;
 use og_msg::{Event, Kind, Msg, Outbox};
@@ -23,14 +23,15 @@ use og_node::Node;
 use og_runs::Seat;
 
 /// Ends an event of an actor: its letters go into flight, and its clock becomes the event's.
-fn end_event<A>(seat: &mut Seat<A>, flight: &mut Flight<Kind>, stamp: Stamp, out: &Outbox)
-    requires room { HaveRoom stamp.actor seat.old.next out.now flight.old }
+fn end_event<A>(seat: &mut Seat<A>, choices: &mut Choices<Kind>, stamp: Stamp, out: &Outbox)
+    requires room { HaveRoom stamp.actor seat.old.next out.now choices.old.flight }
     ensures seat { seat.new ≡ record seat.old { clock = stamp.clock; next = seat.old.next + length out.now } }
-    ensures flight { flight.new ≡ with_letters stamp.actor stamp.clock seat.old.next out.now flight.old }
+    ensures flight { choices.new.flight ≡ with_letters stamp.actor stamp.clock seat.old.next out.now choices.old.flight }
+    ensures same { choices.new ≡ record choices.old { flight = choices.new.flight } }
     ensures few { length out.now ≤ 132 }
 {
     let letters = out.letters();
-    flight.post(stamp, seat.next, letters);
+    choices.post(stamp, seat.next, letters);
     seat.clock = stamp.clock;
     seat.next += letters.len() as u64;
 }
@@ -38,7 +39,7 @@ fn end_event<A>(seat: &mut Seat<A>, flight: &mut Flight<Kind>, stamp: Stamp, out
 /// A node's own next event.
 fn act_of_node(
     seat: &mut Seat<Node>,
-    flight: &mut Flight<Kind>,
+    choices: &mut Choices<Kind>,
     out: &mut Outbox,
     image: &Image,
     actor: ActorId,
@@ -46,13 +47,14 @@ fn act_of_node(
     requires enabled { may_act image.now seat.old.local.processor ≡ Ok tt }
     requires low { IsLowProcessor seat.old.local.processor }
     requires young { seat.old.clock < 2 ^ 63 }
-    requires room { HaveRoom actor seat.old.next (node_act image.now (node_of seat.old.local)).letters flight.old }
-    ensures moves { Moves actor None (by_node (node_act image.now (node_of seat.old.local))) (node_seat seat.old) (node_seat seat.new) flight.old flight.new result }
+    requires room { HaveRoom actor seat.old.next (node_act image.now (node_of seat.old.local)).letters choices.old.flight }
+    ensures moves { Moves actor None (by_node (node_act image.now (node_of seat.old.local))) (node_seat seat.old) (node_seat seat.new) choices.old.flight choices.new.flight result }
+    ensures same { choices.new ≡ record choices.old { flight = choices.new.flight } }
 {
     out.clear();
     let stamp = act_stamp(seat.clock, actor);
     let note = seat.local.act(image, out);
-    end_event(seat, flight, stamp, out);
+    end_event(seat, choices, stamp, out);
     Event {
         choice: Choice::Act(actor),
         stamp,
@@ -63,19 +65,20 @@ fn act_of_node(
 /// The mover's own next event.
 fn act_of_mover(
     seat: &mut Seat<Mover>,
-    flight: &mut Flight<Kind>,
+    choices: &mut Choices<Kind>,
     out: &mut Outbox,
     actor: ActorId,
 ) -> Event
     requires enabled { IsTrue (has_act seat.old.local.job) }
     requires young { seat.old.clock < 2 ^ 63 }
-    requires room { HaveRoom actor seat.old.next (mover_act seat.old.local).letters flight.old }
-    ensures moves { Moves actor None (by_mover (mover_act seat.old.local)) (mover_seat seat.old) (mover_seat seat.new) flight.old flight.new result }
+    requires room { HaveRoom actor seat.old.next (mover_act seat.old.local).letters choices.old.flight }
+    ensures moves { Moves actor None (by_mover (mover_act seat.old.local)) (mover_seat seat.old) (mover_seat seat.new) choices.old.flight choices.new.flight result }
+    ensures same { choices.new ≡ record choices.old { flight = choices.new.flight } }
 {
     out.clear();
     let stamp = act_stamp(seat.clock, actor);
     let note = seat.local.act(out);
-    end_event(seat, flight, stamp, out);
+    end_event(seat, choices, stamp, out);
     Event {
         choice: Choice::Act(actor),
         stamp,
@@ -86,7 +89,7 @@ fn act_of_mover(
 /// The event in which a node takes a message, which has left the flight.
 fn take_of_node(
     seat: &mut Seat<Node>,
-    flight: &mut Flight<Kind>,
+    choices: &mut Choices<Kind>,
     out: &mut Outbox,
     image: &Image,
     message: &Msg,
@@ -97,13 +100,14 @@ fn take_of_node(
     requires low_message { IsLowKind message.now.kind }
     requires nodes { (node_of seat.old.local).home.rules.nodes ≤ 128 }
     requires young { (seat.old.clock < 2 ^ 63) × (message.now.stamp.clock < 2 ^ 63) }
-    requires room { HaveRoom message.now.to seat.old.next (node_take image.now (node_of seat.old.local) message.now).letters flight.old }
-    ensures moves { Moves message.now.to (Some message.now) (by_node (node_take image.now (node_of seat.old.local) message.now)) (node_seat seat.old) (node_seat seat.new) flight.old flight.new result }
+    requires room { HaveRoom message.now.to seat.old.next (node_take image.now (node_of seat.old.local) message.now).letters choices.old.flight }
+    ensures moves { Moves message.now.to (Some message.now) (by_node (node_take image.now (node_of seat.old.local) message.now)) (node_seat seat.old) (node_seat seat.new) choices.old.flight choices.new.flight result }
+    ensures same { choices.new ≡ record choices.old { flight = choices.new.flight } }
 {
     out.clear();
     let stamp = take_stamp(seat.clock, message.stamp, message.to);
     let note = seat.local.take(image, message, out);
-    end_event(seat, flight, stamp, out);
+    end_event(seat, choices, stamp, out);
     Event {
         choice: Choice::Take(message.to, message.id),
         stamp,
@@ -114,19 +118,20 @@ fn take_of_node(
 /// The event in which the mover takes a message, which has left the flight.
 fn take_of_mover(
     seat: &mut Seat<Mover>,
-    flight: &mut Flight<Kind>,
+    choices: &mut Choices<Kind>,
     out: &mut Outbox,
     message: &Msg,
 ) -> Event
     requires row { IsTrue (has_table_row seat.old.local message.now) }
     requires young { (seat.old.clock < 2 ^ 63) × (message.now.stamp.clock < 2 ^ 63) }
-    requires room { HaveRoom message.now.to seat.old.next (mover_take seat.old.local message.now).letters flight.old }
-    ensures moves { Moves message.now.to (Some message.now) (by_mover (mover_take seat.old.local message.now)) (mover_seat seat.old) (mover_seat seat.new) flight.old flight.new result }
+    requires room { HaveRoom message.now.to seat.old.next (mover_take seat.old.local message.now).letters choices.old.flight }
+    ensures moves { Moves message.now.to (Some message.now) (by_mover (mover_take seat.old.local message.now)) (mover_seat seat.old) (mover_seat seat.new) choices.old.flight choices.new.flight result }
+    ensures same { choices.new ≡ record choices.old { flight = choices.new.flight } }
 {
     out.clear();
     let stamp = take_stamp(seat.clock, message.stamp, message.to);
     let note = seat.local.take(message, out);
-    end_event(seat, flight, stamp, out);
+    end_event(seat, choices, stamp, out);
     Event {
         choice: Choice::Take(message.to, message.id),
         stamp,
@@ -197,16 +202,16 @@ impl Machine {
         ensures stays_made { IsMade image.now self.new }
     {
         let at = usize::from(actor);
-        may_act_by(has_mark(self.ready, actor), &self.nodes[at].local, image)?;
+        may_act_by(self.choices.may_act(actor), &self.nodes[at].local, image)?;
         let event = act_of_node(
             &mut self.nodes[at],
-            &mut self.flight,
+            &mut self.choices,
             &mut self.out,
             image,
             actor,
         );
         let may = self.nodes[at].local.can_act(image);
-        self.ready = with_mark(self.ready, actor, may.is_ok());
+        self.choices.mark(actor, may.is_ok());
         self.running = with_mark(self.running, actor, runs(may));
         self.events += 1;
         Ok(event)
@@ -227,7 +232,8 @@ impl Machine {
         if !self.mover.local.can_act() {
             return Err(NotEnabled::NothingToDo);
         }
-        let event = act_of_mover(&mut self.mover, &mut self.flight, &mut self.out, actor);
+        let event = act_of_mover(&mut self.mover, &mut self.choices, &mut self.out, actor);
+        self.choices.mark_last(self.mover.local.can_act());
         self.events += 1;
         Ok(event)
     }
@@ -266,18 +272,18 @@ impl Machine {
         ensures stays_made { IsMade image.now self.new }
     {
         let at = usize::from(actor);
-        let Some(message) = self.flight.take(actor, id) else {
+        let Some(message) = self.choices.take(actor, id) else {
             return Err(NotEnabled::NoMessage);
         };
         let event = take_of_node(
             &mut self.nodes[at],
-            &mut self.flight,
+            &mut self.choices,
             &mut self.out,
             image,
             &message,
         );
         let may = self.nodes[at].local.can_act(image);
-        self.ready = with_mark(self.ready, actor, may.is_ok());
+        self.choices.mark(actor, may.is_ok());
         self.running = with_mark(self.running, actor, runs(may));
         self.events += 1;
         Ok(event)
@@ -295,10 +301,11 @@ impl Machine {
         ensures unchanged { OnErr result (self.new ≡ self.old) }
         ensures stays_made { IsMade image.now self.new }
     {
-        let Some(message) = self.flight.take(actor, id) else {
+        let Some(message) = self.choices.take(actor, id) else {
             return Err(NotEnabled::NoMessage);
         };
-        let event = take_of_mover(&mut self.mover, &mut self.flight, &mut self.out, &message);
+        let event = take_of_mover(&mut self.mover, &mut self.choices, &mut self.out, &message);
+        self.choices.mark_last(self.mover.local.can_act());
         self.events += 1;
         Ok(event)
     }

@@ -61,6 +61,15 @@ placed_is {K} m (x ∷ xs) = at (before x.to x.id.sender x.id.seq m.to m.id.send
     at true h = ap (λ (zs : List (Msg K)). x ∷ zs) h
     at false h = refl
 
+-- and stands at its rank
+pub placed_at : {K : Type 0} → (m : Msg K) (xs : List (Msg K)) → slice_get (placed m xs) (rank m.to m.id.sender m.id.seq xs) ≡ Some m
+placed_at m [] = refl
+placed_at {K} m (x ∷ xs) = at (before x.to x.id.sender x.id.seq m.to m.id.sender m.id.seq) (placed_at m xs)
+  where
+    at : (w : Bool) → slice_get (placed m xs) (rank m.to m.id.sender m.id.seq xs) ≡ Some m → slice_get (cond w (x ∷ placed m xs) (m ∷ x ∷ xs)) (cond w (suc (rank m.to m.id.sender m.id.seq xs)) 0) ≡ Some m
+    at true h = h
+    at false h = refl
+
 -- what is found behind x comes after it
 found_after : {K : Type 0} → (x : Msg K) (ms : List (Msg K)) (i : MsgId) (m : Msg K) → PrecedesAll x ms → find i ms ≡ Some m → precedes x m ≡ true
 found_after x [] i m h e = absurd (cc)

@@ -4,13 +4,12 @@
 #![tactic(auto)]
 
 ghost use Rattle.std.specs.Prelude.{◌≡◌, ℕ, ◌+◌, ◌<◌, ◌≤◌, ◌^◌, IfOk, None, Some, length, slice_get, vec_len, vec_capacity};
-ghost use Rattle.og_runs.specs.Runs.{posted};
-ghost use Rattle.og_runs.specs.World.{find, flight_after, placed, placed_all};
+ghost use Rattle.og_runs.specs.World.{find, without, placed, InPlace, Distinct};
 ghost use Rattle.og_flight.specs.Flight.{before, rank_of, IsRanked, found_for, messages_to, messages_below, first_sent, Went, place_of, AllSlots, messages_of, sent_before, sooner_of};
 ghost use Rattle.std.specs.Prelude.{[], ◌∷◌, ◌++◌, take, drop, is_some};
 ghost use Rattle.og_runs.specs.declared.Msg.{Msg};
 
-use og_runs::{Letter, Msg, MsgId, Stamp};
+use og_runs::{Msg, MsgId};
 use std::alloc::{AllocError, Global};
 use std::marker::Model;
 
@@ -111,15 +110,15 @@ fn keep<K: Copy>(slab: &mut Vec<Msg<K>>, free: &mut Vec<u32>, message: Msg<K>) -
     }
 }
 
-/// Puts an entry at its place. There is room.
-fn put(entries: &mut Vec<IndexEntry>, at: usize, entry: IndexEntry)
-    requires within { at ≤ length entries.old.items }
-    requires room { length entries.old.items < vec_capacity entries.old }
-    ensures items { entries.new.items ≡ take at entries.old.items ++ entry ∷ drop at entries.old.items }
-    ensures length { length entries.new.items ≡ length entries.old.items + 1 }
-    ensures capacity { vec_capacity entries.new ≡ vec_capacity entries.old }
+/// Puts an item at its place. There is room.
+pub fn put<T: Copy>(items: &mut Vec<T>, at: usize, item: T)
+    requires within { at ≤ length items.old.items }
+    requires room { length items.old.items < vec_capacity items.old }
+    ensures items { items.new.items ≡ take at items.old.items ++ item ∷ drop at items.old.items }
+    ensures length { length items.new.items ≡ length items.old.items + 1 }
+    ensures capacity { vec_capacity items.new ≡ vec_capacity items.old }
 {
-    let _put = entries.insert(at, entry);
+    let _put = items.insert(at, item);
 }
 
 /// Whether the first message was sent before the second: by clock, then sender, then number.
@@ -183,11 +182,12 @@ impl<K: Copy> Flight<K> {
         self.entries.capacity()
     }
 
-    /// A message goes into flight.
-    pub fn send(&mut self, message: Msg<K>)
+    /// A message goes into flight, and stands at the place that is returned.
+    pub fn send(&mut self, message: Msg<K>) -> usize
         requires room { length self.old.messages < self.old.room }
         requires new { find message.id self.old.messages ≡ None }
-        ensures { self.new ≡ record { messages = placed message self.old.messages; room = self.old.room } }
+        ensures sent { self.new ≡ record { messages = placed message self.old.messages; room = self.old.room } }
+        ensures place { slice_get self.new.messages result ≡ Some message }
     {
         let at = bisect(
             &self.entries,
@@ -203,29 +203,7 @@ impl<K: Copy> Flight<K> {
             seq: message.id.seq,
         };
         put(&mut self.entries, at, entry);
-    }
-
-    /// An event's letters go into flight: they become messages with the event's stamp and its
-    /// actor's numbers from `first` on, none of which is in flight.
-    pub fn post(&mut self, stamp: Stamp, first: u64, letters: &[Letter<K>])
-        requires room { length self.old.messages + length letters.now ≤ self.old.room }
-        requires numbers { first + length letters.now < 2 ^ 64 }
-        requires new { (k : ℕ) → first ≤ k → find (record { sender = stamp.actor; seq = k }) self.old.messages ≡ None }
-        ensures { self.new ≡ record { messages = placed_all self.old.messages (posted stamp.actor stamp.clock first letters.now); room = self.old.room } }
-    {
-        for i in 0..letters.len() {
-            let letter = letters[i];
-            let id = MsgId {
-                sender: stamp.actor,
-                seq: first + i as u64,
-            };
-            self.send(Msg {
-                id,
-                to: letter.to,
-                stamp,
-                kind: letter.kind,
-            });
-        }
+        at
     }
 
     /// The message with this id, if it is in flight to this receiver.
@@ -241,19 +219,35 @@ impl<K: Copy> Flight<K> {
         }
     }
 
-    /// Takes the message with this id out of flight, if it is in flight to this receiver.
-    pub fn take(&mut self, to: u8, id: MsgId) -> Option<Msg<K>>
-        ensures taken { result ≡ found_for to id self.old.messages }
-        ensures left { self.new ≡ record { messages = flight_after (found_for to id self.old.messages) self.old.messages; room = self.old.room } }
+    /// The place of the message with this id, if it is in flight to this receiver.
+    pub fn place(&self, to: u8, id: MsgId) -> Option<usize>
+        ensures missing { result ≡ None → found_for to id self.now.messages ≡ None }
+        ensures there { (k : ℕ) → result ≡ Some k → slice_get self.now.messages k ≡ found_for to id self.now.messages }
+        ensures within { (k : ℕ) → result ≡ Some k → k < length self.now.messages }
     {
-        match seek(&self.entries, to, id) {
-            Some(at) => {
-                let slot = self.entries.remove(at).slot;
-                self.free.push_reserved(slot);
-                Some(self.slab[slot as usize])
-            }
-            None => None,
-        }
+        seek(&self.entries, to, id)
+    }
+
+    /// Takes the message at a place out of flight.
+    pub fn take_at(&mut self, k: usize) -> Msg<K>
+        requires { k < length self.old.messages }
+        ensures taken { slice_get self.old.messages k ≡ Some result }
+        ensures left { self.new ≡ record { messages = without result.id self.old.messages; room = self.old.room } }
+    {
+        let slot = self.entries.remove(k).slot;
+        self.free.push_reserved(slot);
+        self.slab[slot as usize]
+    }
+
+    /// What an index of messages keeps: they stand in the canonical order, no two have one id, and there are no more than may be.
+    pub fn stays_sound(&self)
+        ensures order { InPlace self.now.messages }
+        ensures distinct { Distinct self.now.messages }
+        ensures within { length self.now.messages ≤ self.now.room }
+        ensures small { self.now.room < 2 ^ 31 }
+    {
+        let _entries = &self.entries;
+        let _in_flight = self.len();
     }
 
     /// How many messages are in flight to actors below this one.

@@ -1,85 +1,91 @@
-use Rattle.std.proofs.Common.{◌≤◌, ◌<◌, length, arith, sym, subst}
+use Rattle.std.proofs.Common.{◌+◌, ◌∙◌, ◌≤◌, ◌<◌, length, arith, sym, ap, subst}
+use Rattle.std.specs.Prelude.{slice_set}
 use Rattle.og_flight.specs.Flight.{Flying}
 use Rattle.og_msg.specs.declared.Kind.{Kind}
 use Rattle.og_node.specs.Kept.{node_of}
 use Rattle.og_node.specs.Node.{take_of as node_take}
+use Rattle.og_runs.specs.declared.Choice.TheVariants.{Take}
+use Rattle.og_choices.specs.Choices.{Offer}
 use Rattle.og_engine.specs.Kept.{KeptMachine, HaveRoom}
+use Rattle.og_engine.proofs.Moved.{Stepped}
 use Rattle.og_engine.proofs.Acts.{marked_back}
-use Rattle.og_engine.proofs.Counts.{few_seats}
+use Rattle.og_engine.proofs.Counts.{few_seats, node_inside}
 use Rattle.og_engine.proofs.Takes.{node_may_take, node_took_as, not_found, left_is}
 use Rattle.og_engine.proofs.Machine.node_takes.Goals as goal
 
 pub returns-in_default-clause-refused : goal.returns-in_default-clause-refused
 returns-in_default-clause-refused c =
-    let k : KeptMachine = record { settings = c.self.inside.settings; nodes = c.self.inside.nodes.items; mover = c.self.inside.mover; flight = c.self.inside.flight; events = c.self.inside.events; ready = c.self.inside.ready; running = c.self.inside.running } in
+    let k : KeptMachine = record { settings = c.self.inside.settings; nodes = c.self.inside.nodes.items; mover = c.self.inside.mover; flight = c.self.inside.choices.flight; events = c.self.inside.events; ready = c.self.inside.choices.ready; mover_ready = c.self.inside.choices.last; running = c.self.inside.running } in
     let le : c.args.actor ≤ length c.args.self.now.nodes = let at : c.args.actor < length c.args.self.now.nodes = c.requires.node in omega arith in
     not_found c.args.image.now k c.args.self.now c.args.actor c.args.id c.take.result c.self.view_is le c.take.ensures.taken c.in_default.is
 
 pub take_of_node-event-requires-clause-row : goal.take_of_node-event-requires-clause-row
 take_of_node-event-requires-clause-row c =
-    let k : KeptMachine = record { settings = c.self.inside.settings; nodes = c.self.inside.nodes.items; mover = c.self.inside.mover; flight = c.self.inside.flight; events = c.self.inside.events; ready = c.self.inside.ready; running = c.self.inside.running } in
+    let k : KeptMachine = record { settings = c.self.inside.settings; nodes = c.self.inside.nodes.items; mover = c.self.inside.mover; flight = c.self.inside.choices.flight; events = c.self.inside.events; ready = c.self.inside.choices.ready; mover_ready = c.self.inside.choices.last; running = c.self.inside.running } in
     (node_may_take c.args.image.now k c.args.self.now c.from-at.result c.args.actor c.args.id c.take.result c.in-Some.message c.index_mut.result.now c.self.view_is c.requires.made c.requires.young c.from-at.ensures c.requires.node c.take.ensures.taken c.in-Some.is c.index_mut.ensures.value).row
 
 pub take_of_node-event-requires-clause-sound : goal.take_of_node-event-requires-clause-sound
 take_of_node-event-requires-clause-sound c =
-    let k : KeptMachine = record { settings = c.self.inside.settings; nodes = c.self.inside.nodes.items; mover = c.self.inside.mover; flight = c.self.inside.flight; events = c.self.inside.events; ready = c.self.inside.ready; running = c.self.inside.running } in
+    let k : KeptMachine = record { settings = c.self.inside.settings; nodes = c.self.inside.nodes.items; mover = c.self.inside.mover; flight = c.self.inside.choices.flight; events = c.self.inside.events; ready = c.self.inside.choices.ready; mover_ready = c.self.inside.choices.last; running = c.self.inside.running } in
     (node_may_take c.args.image.now k c.args.self.now c.from-at.result c.args.actor c.args.id c.take.result c.in-Some.message c.index_mut.result.now c.self.view_is c.requires.made c.requires.young c.from-at.ensures c.requires.node c.take.ensures.taken c.in-Some.is c.index_mut.ensures.value).sound
 
 pub take_of_node-event-requires-clause-low : goal.take_of_node-event-requires-clause-low
 take_of_node-event-requires-clause-low c =
-    let k : KeptMachine = record { settings = c.self.inside.settings; nodes = c.self.inside.nodes.items; mover = c.self.inside.mover; flight = c.self.inside.flight; events = c.self.inside.events; ready = c.self.inside.ready; running = c.self.inside.running } in
+    let k : KeptMachine = record { settings = c.self.inside.settings; nodes = c.self.inside.nodes.items; mover = c.self.inside.mover; flight = c.self.inside.choices.flight; events = c.self.inside.events; ready = c.self.inside.choices.ready; mover_ready = c.self.inside.choices.last; running = c.self.inside.running } in
     (node_may_take c.args.image.now k c.args.self.now c.from-at.result c.args.actor c.args.id c.take.result c.in-Some.message c.index_mut.result.now c.self.view_is c.requires.made c.requires.young c.from-at.ensures c.requires.node c.take.ensures.taken c.in-Some.is c.index_mut.ensures.value).low
 
 pub take_of_node-event-requires-clause-low_message : goal.take_of_node-event-requires-clause-low_message
 take_of_node-event-requires-clause-low_message c =
-    let k : KeptMachine = record { settings = c.self.inside.settings; nodes = c.self.inside.nodes.items; mover = c.self.inside.mover; flight = c.self.inside.flight; events = c.self.inside.events; ready = c.self.inside.ready; running = c.self.inside.running } in
+    let k : KeptMachine = record { settings = c.self.inside.settings; nodes = c.self.inside.nodes.items; mover = c.self.inside.mover; flight = c.self.inside.choices.flight; events = c.self.inside.events; ready = c.self.inside.choices.ready; mover_ready = c.self.inside.choices.last; running = c.self.inside.running } in
     (node_may_take c.args.image.now k c.args.self.now c.from-at.result c.args.actor c.args.id c.take.result c.in-Some.message c.index_mut.result.now c.self.view_is c.requires.made c.requires.young c.from-at.ensures c.requires.node c.take.ensures.taken c.in-Some.is c.index_mut.ensures.value).low_message
 
 pub take_of_node-event-requires-clause-nodes : goal.take_of_node-event-requires-clause-nodes
 take_of_node-event-requires-clause-nodes c =
-    let k : KeptMachine = record { settings = c.self.inside.settings; nodes = c.self.inside.nodes.items; mover = c.self.inside.mover; flight = c.self.inside.flight; events = c.self.inside.events; ready = c.self.inside.ready; running = c.self.inside.running } in
+    let k : KeptMachine = record { settings = c.self.inside.settings; nodes = c.self.inside.nodes.items; mover = c.self.inside.mover; flight = c.self.inside.choices.flight; events = c.self.inside.events; ready = c.self.inside.choices.ready; mover_ready = c.self.inside.choices.last; running = c.self.inside.running } in
     (node_may_take c.args.image.now k c.args.self.now c.from-at.result c.args.actor c.args.id c.take.result c.in-Some.message c.index_mut.result.now c.self.view_is c.requires.made c.requires.young c.from-at.ensures c.requires.node c.take.ensures.taken c.in-Some.is c.index_mut.ensures.value).few
 
 pub take_of_node-event-requires-clause-young : goal.take_of_node-event-requires-clause-young
 take_of_node-event-requires-clause-young c =
-    let k : KeptMachine = record { settings = c.self.inside.settings; nodes = c.self.inside.nodes.items; mover = c.self.inside.mover; flight = c.self.inside.flight; events = c.self.inside.events; ready = c.self.inside.ready; running = c.self.inside.running } in
+    let k : KeptMachine = record { settings = c.self.inside.settings; nodes = c.self.inside.nodes.items; mover = c.self.inside.mover; flight = c.self.inside.choices.flight; events = c.self.inside.events; ready = c.self.inside.choices.ready; mover_ready = c.self.inside.choices.last; running = c.self.inside.running } in
     (node_may_take c.args.image.now k c.args.self.now c.from-at.result c.args.actor c.args.id c.take.result c.in-Some.message c.index_mut.result.now c.self.view_is c.requires.made c.requires.young c.from-at.ensures c.requires.node c.take.ensures.taken c.in-Some.is c.index_mut.ensures.value).young
 
 pub take_of_node-event-requires-clause-room : goal.take_of_node-event-requires-clause-room
 take_of_node-event-requires-clause-room c =
-    let k : KeptMachine = record { settings = c.self.inside.settings; nodes = c.self.inside.nodes.items; mover = c.self.inside.mover; flight = c.self.inside.flight; events = c.self.inside.events; ready = c.self.inside.ready; running = c.self.inside.running } in
-    subst (λ (f : Flying Kind). HaveRoom c.in-Some.message.to c.index_mut.result.now.next (node_take c.args.image.now (node_of c.index_mut.result.now.local) c.in-Some.message).letters f) (sym (left_is c.args.actor c.args.id c.self.inside.flight c.take.new.self c.take.result c.in-Some.message c.take.ensures.taken c.in-Some.is c.take.ensures.left)) (node_may_take c.args.image.now k c.args.self.now c.from-at.result c.args.actor c.args.id c.take.result c.in-Some.message c.index_mut.result.now c.self.view_is c.requires.made c.requires.young c.from-at.ensures c.requires.node c.take.ensures.taken c.in-Some.is c.index_mut.ensures.value).room
+    let k : KeptMachine = record { settings = c.self.inside.settings; nodes = c.self.inside.nodes.items; mover = c.self.inside.mover; flight = c.self.inside.choices.flight; events = c.self.inside.events; ready = c.self.inside.choices.ready; mover_ready = c.self.inside.choices.last; running = c.self.inside.running } in
+    subst (λ (f : Flying Kind). HaveRoom c.in-Some.message.to c.index_mut.result.now.next (node_take c.args.image.now (node_of c.index_mut.result.now.local) c.in-Some.message).letters f) (sym (left_is c.args.actor c.args.id c.self.inside.choices.flight c.take.new.self.flight c.take.result c.in-Some.message c.take.ensures.taken c.in-Some.is (ap (λ (o : Offer Kind). o.flight) c.take.ensures.left))) (node_may_take c.args.image.now k c.args.self.now c.from-at.result c.args.actor c.args.id c.take.result c.in-Some.message c.index_mut.result.now c.self.view_is c.requires.made c.requires.young c.from-at.ensures c.requires.node c.take.ensures.taken c.in-Some.is c.index_mut.ensures.value).room
+
+pub mark-requires : goal.mark-requires
+mark-requires c =
+    let k : KeptMachine = record { settings = c.self.inside.settings; nodes = c.self.inside.nodes.items; mover = c.self.inside.mover; flight = c.self.inside.choices.flight; events = c.self.inside.events; ready = c.self.inside.choices.ready; mover_ready = c.self.inside.choices.last; running = c.self.inside.running } in
+    node_inside c.args.image.now k c.args.self.now c.args.actor c.take_of_node-event.new.choices.nodes c.self.view_is c.requires.made c.requires.node (ap (λ (o : Offer Kind). o.nodes) c.take_of_node-event.ensures.same ∙ ap (λ (o : Offer Kind). o.nodes) c.take.ensures.left ∙ c.self.invariant)
 
 pub with_mark-self-inside-requires : goal.with_mark-self-inside-requires
 with_mark-self-inside-requires c =
-    let k : KeptMachine = record { settings = c.self.inside.settings; nodes = c.self.inside.nodes.items; mover = c.self.inside.mover; flight = c.self.inside.flight; events = c.self.inside.events; ready = c.self.inside.ready; running = c.self.inside.running } in
+    let k : KeptMachine = record { settings = c.self.inside.settings; nodes = c.self.inside.nodes.items; mover = c.self.inside.mover; flight = c.self.inside.choices.flight; events = c.self.inside.events; ready = c.self.inside.choices.ready; mover_ready = c.self.inside.choices.last; running = c.self.inside.running } in
     few_seats c.args.image.now k c.args.self.now c.args.actor c.self.view_is c.requires.made c.requires.node
 
-pub with_mark-self-inside-requires-2 : goal.with_mark-self-inside-requires-2
-with_mark-self-inside-requires-2 c =
-    let k : KeptMachine = record { settings = c.self.inside.settings; nodes = c.self.inside.nodes.items; mover = c.self.inside.mover; flight = c.self.inside.flight; events = c.self.inside.events; ready = c.self.inside.ready; running = c.self.inside.running } in
-    few_seats c.args.image.now k c.args.self.now c.args.actor c.self.view_is c.requires.made c.requires.node
+stepped : (c : goal.After-self-3-1) → Stepped c.args.image.now c.args.self.now (Take c.args.actor c.args.id)
+    (record { settings = c.self.inside.settings; nodes = slice_set c.self.inside.nodes.items c.from-at.result c.take_of_node-event.new.seat; mover = c.self.inside.mover; flight = c.mark.new.self.flight; events = c.self.inside.events + 1; ready = c.mark.new.self.ready; mover_ready = c.mark.new.self.last; running = c.with_mark-self-inside.result }) c.take_of_node-event.result
+stepped c =
+    let k : KeptMachine = record { settings = c.self.inside.settings; nodes = c.self.inside.nodes.items; mover = c.self.inside.mover; flight = c.self.inside.choices.flight; events = c.self.inside.events; ready = c.self.inside.choices.ready; mover_ready = c.self.inside.choices.last; running = c.self.inside.running } in
+    node_took_as c.args.image.now k c.args.self.now c.from-at.result c.args.actor c.args.id c.take.result c.in-Some.message c.index_mut.result.now c.take_of_node-event.new.seat c.take.new.self.flight c.take_of_node-event.new.choices c.mark.new.self c.take_of_node-event.result c.with_mark-self-inside.result
+    c.self.view_is c.requires.made c.from-at.ensures c.requires.node c.take.ensures.taken c.in-Some.is (ap (λ (o : Offer Kind). o.flight) c.take.ensures.left) c.index_mut.ensures.value c.take_of_node-event.ensures.moves
+    (ap (λ (o : Offer Kind). o.last) c.take_of_node-event.ensures.same ∙ ap (λ (o : Offer Kind). o.last) c.take.ensures.left) c.mark.ensures.same
+    (marked_back c.args.image.now k c.args.self.now c.from-at.result c.args.actor c.take_of_node-event.new.seat c.index.result.now c.can_act-may.result c.is_ok.result c.runs.result c.take_of_node-event.new.choices.ready c.mark.new.self.ready c.with_mark-self-inside.result
+    c.self.view_is c.requires.made c.from-at.ensures c.requires.node c.index.ensures c.can_act-may.ensures c.is_ok.ensures.value c.runs.ensures
+    (ap (λ (o : Offer Kind). o.ready) c.take_of_node-event.ensures.same ∙ ap (λ (o : Offer Kind). o.ready) c.take.ensures.left) c.mark.ensures.marks c.with_mark-self-inside.ensures)
 
 pub returns-clause-refused : goal.returns-clause-refused
-returns-clause-refused c =
-    let k : KeptMachine = record { settings = c.self.inside.settings; nodes = c.self.inside.nodes.items; mover = c.self.inside.mover; flight = c.self.inside.flight; events = c.self.inside.events; ready = c.self.inside.ready; running = c.self.inside.running } in
-    sym (node_took_as c.args.image.now k c.args.self.now c.from-at.result c.args.actor c.args.id c.take.result c.in-Some.message c.index_mut.result.now c.take_of_node-event.new.seat c.take.new.self c.take_of_node-event.new.flight c.take_of_node-event.result c.with_mark-self-inside.result c.with_mark-self-inside-2.result
-    c.self.view_is c.requires.made c.from-at.ensures c.requires.node c.take.ensures.taken c.in-Some.is c.take.ensures.left c.index_mut.ensures.value c.take_of_node-event.ensures.moves
-    (marked_back c.args.image.now k c.args.self.now c.from-at.result c.args.actor c.take_of_node-event.new.seat c.index.result.now c.can_act-may.result c.is_ok.result c.runs.result c.with_mark-self-inside.result c.with_mark-self-inside-2.result
-    c.self.view_is c.requires.made c.from-at.ensures c.requires.node c.index.ensures c.can_act-may.ensures c.is_ok.ensures.value c.runs.ensures c.with_mark-self-inside.ensures c.with_mark-self-inside-2.ensures)).free
+returns-clause-refused c = sym (stepped c).free
 
 pub returns-clause-made : goal.returns-clause-made
-returns-clause-made c =
-    let k : KeptMachine = record { settings = c.self.inside.settings; nodes = c.self.inside.nodes.items; mover = c.self.inside.mover; flight = c.self.inside.flight; events = c.self.inside.events; ready = c.self.inside.ready; running = c.self.inside.running } in
-    (node_took_as c.args.image.now k c.args.self.now c.from-at.result c.args.actor c.args.id c.take.result c.in-Some.message c.index_mut.result.now c.take_of_node-event.new.seat c.take.new.self c.take_of_node-event.new.flight c.take_of_node-event.result c.with_mark-self-inside.result c.with_mark-self-inside-2.result
-    c.self.view_is c.requires.made c.from-at.ensures c.requires.node c.take.ensures.taken c.in-Some.is c.take.ensures.left c.index_mut.ensures.value c.take_of_node-event.ensures.moves
-    (marked_back c.args.image.now k c.args.self.now c.from-at.result c.args.actor c.take_of_node-event.new.seat c.index.result.now c.can_act-may.result c.is_ok.result c.runs.result c.with_mark-self-inside.result c.with_mark-self-inside-2.result
-    c.self.view_is c.requires.made c.from-at.ensures c.requires.node c.index.ensures c.can_act-may.ensures c.is_ok.ensures.value c.runs.ensures c.with_mark-self-inside.ensures c.with_mark-self-inside-2.ensures)).step
+returns-clause-made c = (stepped c).step
 
 pub returns-clause-stays_made : goal.returns-clause-stays_made
-returns-clause-stays_made c =
-    let k : KeptMachine = record { settings = c.self.inside.settings; nodes = c.self.inside.nodes.items; mover = c.self.inside.mover; flight = c.self.inside.flight; events = c.self.inside.events; ready = c.self.inside.ready; running = c.self.inside.running } in
-    (node_took_as c.args.image.now k c.args.self.now c.from-at.result c.args.actor c.args.id c.take.result c.in-Some.message c.index_mut.result.now c.take_of_node-event.new.seat c.take.new.self c.take_of_node-event.new.flight c.take_of_node-event.result c.with_mark-self-inside.result c.with_mark-self-inside-2.result
-    c.self.view_is c.requires.made c.from-at.ensures c.requires.node c.take.ensures.taken c.in-Some.is c.take.ensures.left c.index_mut.ensures.value c.take_of_node-event.ensures.moves
-    (marked_back c.args.image.now k c.args.self.now c.from-at.result c.args.actor c.take_of_node-event.new.seat c.index.result.now c.can_act-may.result c.is_ok.result c.runs.result c.with_mark-self-inside.result c.with_mark-self-inside-2.result
-    c.self.view_is c.requires.made c.from-at.ensures c.requires.node c.index.ensures c.can_act-may.ensures c.is_ok.ensures.value c.runs.ensures c.with_mark-self-inside.ensures c.with_mark-self-inside-2.ensures)).made
+returns-clause-stays_made c = (stepped c).made
+
+pub invariant_of-self-2 : goal.invariant_of-self-2
+invariant_of-self-2 c = ap (λ (o : Offer Kind). o.nodes) c.mark.ensures.same ∙ ap (λ (o : Offer Kind). o.nodes) c.take_of_node-event.ensures.same ∙ ap (λ (o : Offer Kind). o.nodes) c.take.ensures.left ∙ c.self.invariant
+
+pub invariant_of-self : goal.invariant_of-self
+invariant_of-self c = ap (λ (o : Offer Kind). o.nodes) c.take.ensures.left ∙ c.self.invariant

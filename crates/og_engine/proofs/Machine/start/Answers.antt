@@ -1,5 +1,7 @@
-use Rattle.std.proofs.Common.{◌≤◌, ◌*◌, ℕ, List, length, sym, subst}
+use Rattle.std.proofs.Common.{◌∙◌, ◌≤◌, ◌*◌, ℕ, List, length, ap, sym, subst}
 use Rattle.og_runs.specs.declared.Seat.{Seat}
+use Rattle.og_msg.specs.declared.Kind.{Kind}
+use Rattle.og_choices.specs.Choices.{Offer}
 use Rattle.og_image.specs.Layout.{LayoutState, pages_of}
 use Rattle.og_pager.specs.PageTable.{Suits}
 use Rattle.og_node.specs.Kept.{KeptNode}
@@ -15,14 +17,16 @@ make-requires c =
 
 pub returns-clause-start : goal.returns-clause-start
 returns-clause-start c =
-    let first = first_is c.args.image.now c.args.layout.now c.args.settings.now c.in_ok-nodes.nodes.items c.in_ok-make.field-0 c.in_ok-flight.flight c.room.result c.first_marks-ready.result.0 c.first_marks-ready.result.1
-    c.requires.layout c.in_ok-nodes.ensures.seats c.in_ok-make.ensures c.in_ok-flight.ensures c.room.ensures.value in
+    let first = first_is c.args.image.now c.args.layout.now c.args.settings.now c.in_ok-nodes.nodes.items c.in_ok-make.field-0 c.first_marks-running.new.choices.flight c.room.result c.first_marks-running.new.choices.ready c.first_marks-running.result c.first_marks-running.new.choices.last
+    c.requires.layout c.in_ok-nodes.ensures.seats c.in_ok-make.ensures (ap (λ (o : Offer Kind). o.flight) c.first_marks-running.ensures.same ∙ ap (λ (o : Offer Kind). o.flight) c.in_ok-choices.ensures) c.room.ensures.value
+    (ap (λ (o : Offer Kind). o.last) c.first_marks-running.ensures.same ∙ ap (λ (o : Offer Kind). o.last) c.in_ok-choices.ensures) in
     is_start c.args.image.now c.args.settings.now _ first
 
 pub returns-clause-made : goal.returns-clause-made
 returns-clause-made c =
-    let first = first_is c.args.image.now c.args.layout.now c.args.settings.now c.in_ok-nodes.nodes.items c.in_ok-make.field-0 c.in_ok-flight.flight c.room.result c.first_marks-ready.result.0 c.first_marks-ready.result.1
-    c.requires.layout c.in_ok-nodes.ensures.seats c.in_ok-make.ensures c.in_ok-flight.ensures c.room.ensures.value in
+    let first = first_is c.args.image.now c.args.layout.now c.args.settings.now c.in_ok-nodes.nodes.items c.in_ok-make.field-0 c.first_marks-running.new.choices.flight c.room.result c.first_marks-running.new.choices.ready c.first_marks-running.result c.first_marks-running.new.choices.last
+    c.requires.layout c.in_ok-nodes.ensures.seats c.in_ok-make.ensures (ap (λ (o : Offer Kind). o.flight) c.first_marks-running.ensures.same ∙ ap (λ (o : Offer Kind). o.flight) c.in_ok-choices.ensures) c.room.ensures.value
+    (ap (λ (o : Offer Kind). o.last) c.first_marks-running.ensures.same ∙ ap (λ (o : Offer Kind). o.last) c.in_ok-choices.ensures) in
     let s = c.args.settings.now in
     let ok : AreSettings c.args.image.now c.args.settings.now = record {
       loadable = c.stays_loadable.ensures.program;
@@ -36,4 +40,4 @@ returns-clause-made c =
       some_ways = s.ways_in_range.0;
       some_entries = s.tlb_in_range.0;
     } in
-    first_is_made c.args.image.now c.args.settings.now _ ok first (subst (λ (xs : List (Seat KeptNode)). AreMarked c.args.image.now xs c.first_marks-ready.result.0 c.first_marks-ready.result.1) c.deref.ensures.value c.first_marks-ready.ensures)
+    first_is_made c.args.image.now c.args.settings.now _ ok first (subst (λ (xs : List (Seat KeptNode)). AreMarked c.args.image.now xs c.first_marks-running.new.choices.ready c.first_marks-running.result) c.deref.ensures.value c.first_marks-running.ensures.marks)

@@ -1,6 +1,6 @@
 use Rattle.std.proofs.Common.{◌∙◌, ap}
 use Rattle.og_engine.specs.Kept.{KeptMachine}
-use Rattle.og_engine.specs.Marks.{marks_below}
+use Rattle.og_choices.specs.Marks.{marks_below}
 use Rattle.og_engine.proofs.Counts.{stopped_is}
 use Rattle.og_engine.proofs.Machine.stopped.Goals as goal
 

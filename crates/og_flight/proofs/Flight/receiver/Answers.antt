@@ -1,4 +1,4 @@
-use Rattle.std.proofs.Common.{rules, ◌≡◌, ◌<◌, arith, sym, ap, length, Some, slice_get}
+use Rattle.std.proofs.Common.{rules, ◌≡◌, arith, sym, ap, length, Some, slice_get}
 use Rattle.std.proofs.Math.Path.{◌∙◌}
 use Rattle.std.specs.Prelude.{vec_len}
 use Rattle.std.proofs.lemmas.Option.{get_or_from_slice_get}

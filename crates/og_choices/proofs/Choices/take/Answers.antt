@@ -1,0 +1,29 @@
+use Rattle.std.proofs.Common.{◌≡◌, ◌+◌, ◌<◌, ◌≤◌, arith, ap, refl, length}
+use Rattle.std.specs.Prelude.{vec_capacity}
+use Rattle.og_runs.specs.World.{without}
+use Rattle.og_runs.proofs.Shown.{slice_get_some}
+use Rattle.og_flight.specs.Flight.{Flying}
+use Rattle.og_choices.specs.Choices.{Offer}
+use Rattle.og_choices.proofs.Changes.{acts_counted, taking, found_to}
+use Rattle.og_choices.proofs.Choices.take.Goals as goal
+
+pub remove-turn-requires : goal.remove-turn-requires
+remove-turn-requires g c =
+    let o : Offer _ = record { flight = c.self.inside.flight; nodes = c.self.inside.nodes; ready = c.self.inside.ready; last = c.self.inside.last } in
+    let lt : c.in_ok-k.k < length c.self.inside.flight.messages = c.in_ok-k.ensures.within c.in_ok-k.k refl in
+    let x = slice_get_some c.self.inside.flight.messages c.in_ok-k.k lt in
+    let taken = taking o c.self.inside.turns.items x.0 c.in_ok-k.k c.acts_below-acts.result c.args.to (record { messages = without x.0.id c.self.inside.flight.messages; room = c.self.inside.flight.room }) c.self.invariant.turns c.stays_sound.ensures.order c.stays_sound.ensures.distinct x.1
+    (found_to c.args.to c.args.id c.self.inside.flight.messages c.in_ok-k.k x.0 (c.in_ok-k.ensures.there c.in_ok-k.k refl) x.1)
+    (acts_counted o (c.from.result + 1) c.args.to c.acts_below-acts.result c.acts_below-acts.ensures.acts (omega arith)) refl in
+    let inside : c.in_ok-k.k + c.acts_below-acts.result < length c.self.inside.turns.items = taken.inside in
+    omega (arith, c.self.inside.turns.ok.0)
+
+pub invariant_of-self : goal.invariant_of-self
+invariant_of-self g c =
+    let o : Offer _ = record { flight = c.self.inside.flight; nodes = c.self.inside.nodes; ready = c.self.inside.ready; last = c.self.inside.last } in
+    record {
+      turns = (taking o c.self.inside.turns.items c.take_at.result c.in_ok-k.k c.acts_below-acts.result c.args.to c.take_at.new.self c.self.invariant.turns c.stays_sound.ensures.order c.stays_sound.ensures.distinct c.take_at.ensures.taken (found_to c.args.to c.args.id c.self.inside.flight.messages c.in_ok-k.k c.take_at.result (c.in_ok-k.ensures.there c.in_ok-k.k refl) c.take_at.ensures.taken)
+          (acts_counted o (c.from.result + 1) c.args.to c.acts_below-acts.result c.acts_below-acts.ensures.acts (omega arith)) c.take_at.ensures.left).are c.remove-turn.new.self.items c.remove-turn.ensures.items;
+      few = c.self.invariant.few;
+      room = (let same : c.take_at.new.self.room ≡ c.self.inside.flight.room = ap (λ (f : Flying _). f.room) c.take_at.ensures.left in let kept : vec_capacity c.remove-turn.new.self ≡ vec_capacity c.self.inside.turns = c.remove-turn.ensures.capacity in let enough : c.self.inside.flight.room + 129 ≤ vec_capacity c.self.inside.turns = c.self.invariant.room in omega arith);
+    }
