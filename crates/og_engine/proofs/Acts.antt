@@ -24,10 +24,10 @@ use Rattle.og_mover.specs.Table.{MoverState, has_act, act_of as mover_act}
 use Rattle.og_machine.specs.Machine.{ActorState, mover_may, by_node, by_mover, refusal_by, refusal_of}
 use Rattle.og_choices.specs.Marks.{is_marked}
 use Rattle.og_choices.specs.Choices.{Offer}
-use Rattle.og_engine.specs.Marks.{AreMarked, is_ready, is_running_by}
+use Rattle.og_engine.specs.Marks.{AreMarked, is_ready, is_running, is_running_by}
 use Rattle.og_engine.specs.Kept.{KeptMachine, IsMade, Moves, HaveRoom, machine_of, setup_in, node_seat, mover_seat}
 use Rattle.og_stores.proofs.Machines.{lines_are_low}
-use Rattle.og_engine.proofs.Bits.{get_changed, marked_again}
+use Rattle.og_engine.proofs.Bits.{get_changed, marked_again, runs_by}
 use Rattle.og_engine.proofs.Moved.{IsMove, IsAfter, Stepped, act_is, act_refused, no_actor_acts, clock_low, choices_count, have_room, step_is, stays_made}
 
 -- ---- who sits where
@@ -166,18 +166,29 @@ read_back xs a y z lt is =
     same_seat (slice_set xs a y) a z y found there
 
 -- the marks after an event of the node at a place, which is then read again
-pub marked_back : (image : ImageState) (kept old : KeptMachine) (at actor : ℕ) (y z : Seat KeptNode) (may : Result (Unit {0}) NotEnabled) (on runs : Bool) (before ready running : ℕ) → kept ≡ old → IsMade image old → at ≡ actor → actor < length old.nodes →
-    z ≡ get_or (slice_set kept.nodes at y) at z → may ≡ may_act image z.local.processor → on ≡ is_ok may → runs ≡ is_running_by may → before ≡ kept.ready →
-    ((k : ℕ) → is_marked ready k ≡ (if nat_eq k actor then on else is_marked before k)) → ((k : ℕ) → is_marked running k ≡ (if nat_eq k actor then runs else is_marked kept.running k)) →
+pub marked_back : (image : ImageState) (kept old : KeptMachine) (at actor : ℕ) (y z : Seat KeptNode) (may : Result (Unit {0}) NotEnabled) (before ready running : ℕ) → kept ≡ old → IsMade image old → at ≡ actor → actor < length old.nodes →
+    z ≡ get_or (slice_set kept.nodes at y) at z → may ≡ may_act image z.local.processor → before ≡ kept.ready →
+    ((k : ℕ) → is_marked ready k ≡ (if nat_eq k actor then is_ok may else is_marked before k)) → ((k : ℕ) → is_marked running k ≡ (if nat_eq k actor then is_running_by may else is_marked kept.running k)) →
     AreMarked image (slice_set kept.nodes at y) ready running
-marked_back image kept old at actor y z may on runs before ready running is made at_is lt read may_is on_is runs_is before_is ready_is running_is =
+marked_back image kept old at actor y z may before ready running is made at_is lt read may_is before_is ready_is running_is =
     let here : actor < length kept.nodes = subst (λ (m : KeptMachine). actor < length m.nodes) (sym is) lt in
     let inside : at < length kept.nodes = omega arith in
     let same : z ≡ y = read_back kept.nodes at y z inside read in
     marked_again image kept.nodes at y may kept.ready kept.running ready running (made_as image kept old is made).2.marks inside
     (may_is ∙ ap (λ (x : Seat KeptNode). may_act image x.local.processor) same)
-    (λ k. ready_is k ∙ ap (λ (word : ℕ). if nat_eq k actor then on else is_marked word k) before_is ∙ ap (λ (a : ℕ). if nat_eq k a then on else is_marked kept.ready k) (sym at_is) ∙ ap (λ (t : Bool). if nat_eq k at then t else is_marked kept.ready k) on_is)
-    (λ k. running_is k ∙ ap (λ (a : ℕ). if nat_eq k a then runs else is_marked kept.running k) (sym at_is) ∙ ap (λ (t : Bool). if nat_eq k at then t else is_marked kept.running k) runs_is)
+    (λ k. ready_is k ∙ ap (λ (word : ℕ). if nat_eq k actor then is_ok may else is_marked word k) before_is ∙ ap (λ (a : ℕ). if nat_eq k a then is_ok may else is_marked kept.ready k) (sym at_is))
+    (λ k. running_is k ∙ ap (λ (a : ℕ). if nat_eq k a then is_running_by may else is_marked kept.running k) (sym at_is))
+
+-- a node that may act has both marks
+pub both_marked : (image : ImageState) (kept old : KeptMachine) (at actor : ℕ) (x : Seat KeptNode) (can : Result (Unit {0}) NotEnabled) → kept ≡ old → IsMade image old → at ≡ actor → actor < length old.nodes → x ≡ get_or kept.nodes at x →
+    can ≡ may_act image x.local.processor → can ≡ Ok tt → (is_marked kept.ready actor ≡ true) × (is_marked kept.running actor ≡ true)
+both_marked image kept old at actor x can is made at_is lt read can_is ok =
+    let there : slice_get kept.nodes at ≡ Some x = node_there kept old at actor x is at_is lt read in
+    let may : may_act image x.local.processor ≡ Ok tt = sym can_is ∙ ok in
+    let marks : AreMarked image kept.nodes kept.ready kept.running = (made_as image kept old is made).2.marks in (
+      ap (is_marked kept.ready) (sym at_is) ∙ marks.ready_is at ∙ ap (is_ready image) there ∙ ap is_ok may,
+      ap (is_marked kept.running) (sym at_is) ∙ marks.running_is at ∙ ap is_running there ∙ sym (runs_by image x.local.processor) ∙ ap is_running_by may,
+    )
 
 -- a node's mark says whether it may act
 pub node_marked_as : (image : ImageState) (kept old : KeptMachine) (at actor : ℕ) (x : Seat KeptNode) (mark : Bool) → kept ≡ old → IsMade image old → at ≡ actor → actor < length old.nodes → x ≡ get_or kept.nodes at x →

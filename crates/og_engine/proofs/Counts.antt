@@ -1,7 +1,9 @@
 -- What the marks say of the harts of a machine, and whether it is quiet.
 use Rattle.std.proofs.Common.{◌≡◌, ◌≢◌, ◌∙◌, ℕ, zero, suc, ◌+◌, ◌<◌, ◌≤◌, Bool, true, false, nat_eq, arith, refl, sym, ap, Option, None, Some, List, [], ◌∷◌, length}
-use Rattle.std.specs.Prelude.{slice_get, is_none, is_some, if◌then◌else◌, ◌&&◌}
+use Rattle.std.specs.Prelude.{slice_get, is_none, is_some, ◌&&◌}
 use Rattle.std.specs.List.{list_all}
+use Rattle.std.specs.Int.{bit_at}
+use Rattle.std.proofs.lemmas.Nat.Bits.{bit_at-lt, bit_at-zero, same_from_bits}
 use Rattle.std.proofs.lemmas.Bool.Decides.{nat_tests}
 use Rattle.og_base.specs.declared.Cause.{Cause}
 use Rattle.og_runs.specs.declared.Seat.{Seat}
@@ -11,7 +13,7 @@ use Rattle.og_node.specs.Kept.{KeptNode}
 use Rattle.og_victim.specs.Slot.{is_free_slot}
 use Rattle.og_mover.specs.Table.{MoverState, is_idle_job}
 use Rattle.og_machine.specs.Machine.{ActorState, has_stopped, is_at_rest, is_stopped, is_quiet}
-use Rattle.og_choices.specs.Marks.{is_marked, marks_below}
+use Rattle.og_choices.specs.Marks.{is_marked}
 use Rattle.og_engine.specs.Marks.{is_running}
 use Rattle.og_engine.specs.Kept.{KeptMachine, IsMade, machine_of, setup_in, node_seat, mover_seat, seats_of}
 use Rattle.og_engine.proofs.Known.{seats_count}
@@ -43,26 +45,16 @@ not_running : (o : Option Cause) → is_none o ≡ false → is_some o ≡ true
 not_running None e = absurd (cc)
 not_running (Some cause) e = refl
 
-no_mark : (word n a : ℕ) → marks_below word n ≡ 0 → a < n → is_marked word a ≡ false
-unfolding marks_below
-no_mark word zero a none lt = absurd (omega arith)
-no_mark word (suc n) a none lt = at (nat_eq a n) refl (is_marked word n) refl none (λ e l. no_mark word n a e l)
-  where
-    at : (t : Bool) → nat_eq a n ≡ t → (u : Bool) → is_marked word n ≡ u → marks_below word n + (if u then 1 else 0) ≡ 0 → (marks_below word n ≡ 0 → a < n → is_marked word a ≡ false) → is_marked word a ≡ false
-    at true is true marked none rest = absurd (omega arith)
-    at true is false marked none rest = let same : a ≡ n = grind (arith, nat_tests) in ap (is_marked word) same ∙ marked
-    at false is u marked none rest =
-        let below : a < n = grind (arith, nat_tests) in
-        rest (omega arith) below
+-- a word without marks is 0
+no_bit : (word k : ℕ) → is_marked word k ≡ false → bit_at word k ≡ bit_at 0 k
+no_bit word k none =
+    let low : bit_at word k < 2 = bit_at-lt word k in
+    let not_one : bit_at word k ≢ 1 = λ e. (let t : nat_eq (bit_at word k) 1 ≡ true = grind (arith, nat_tests) in cc) in
+    let zero_is : bit_at word k ≡ 0 = grind (arith, not_one) in
+    zero_is ∙ sym (bit_at-zero k)
 
-no_marks : (word n : ℕ) → ((a : ℕ) → a < n → is_marked word a ≡ false) → marks_below word n ≡ 0
-unfolding marks_below
-no_marks word zero none = refl
-no_marks word (suc n) none =
-    let rest : marks_below word n ≡ 0 = no_marks word n (λ a lt. none a (omega arith)) in
-    let f : Bool → ℕ = λ t. if t then 1 else 0 in
-    let here : f (is_marked word n) ≡ 0 = ap f (none n (omega arith)) in
-    omega arith
+no_marks : (word : ℕ) → ((k : ℕ) → is_marked word k ≡ false) → word ≡ 0
+no_marks word none = same_from_bits word 0 (λ k. no_bit word k (none k))
 
 -- all seats pass a test exactly where all nodes do, and the mover
 all_seats : (p : ActorState → Bool) (nodes : List (Seat KeptNode)) (mover : Seat MoverState) → list_all (λ x. p x.local) (seats_of nodes mover) ≡ (list_all (λ x. p (node_seat x).local) nodes && p (mover_seat mover).local)
@@ -103,28 +95,25 @@ none_runs (x ∷ xs) all a = at (is_some x.local.processor.hart.cause) refl all 
     at false is rest more a = absurd (cc)
 
 -- no mark says that a hart runs exactly where each has stopped
-pub stopped_is : (image : ImageState) (kept : KeptMachine) (count : ℕ) → IsMade image kept → count ≡ marks_below kept.running kept.settings.nodes → nat_eq count 0 ≡ is_stopped (machine_of kept)
+pub stopped_is : (image : ImageState) (kept : KeptMachine) (word : ℕ) → IsMade image kept → word ≡ kept.running → nat_eq word 0 ≡ is_stopped (machine_of kept)
 unfolding is_stopped machine_of halted
-stopped_is image kept count made is =
-    at (nat_eq count 0) refl (list_all halted kept.nodes) refl ∙ back (list_all halted kept.nodes) ∙ sym (all_seats has_stopped kept.nodes kept.mover)
+stopped_is image kept word made is =
+    at (nat_eq word 0) refl (list_all halted kept.nodes) refl ∙ back (list_all halted kept.nodes) ∙ sym (all_seats has_stopped kept.nodes kept.mover)
   where
     back : (t : Bool) → t ≡ (t && true)
     back true = refl
     back false = refl
 
-    n_is : length kept.nodes ≡ kept.settings.nodes
-    n_is = nodes_count image kept made
-
-    at : (t : Bool) → nat_eq count 0 ≡ t → (u : Bool) → list_all halted kept.nodes ≡ u → t ≡ u
+    at : (t : Bool) → nat_eq word 0 ≡ t → (u : Bool) → list_all halted kept.nodes ≡ u → t ≡ u
     at true e true all = refl
     at false e false all = refl
     at true e false all =
-        let none : marks_below kept.running kept.settings.nodes ≡ 0 = (let c : count ≡ 0 = grind (arith, nat_tests) in omega arith) in
-        let yes : list_all halted kept.nodes ≡ true = all_halted kept.nodes (λ a lt. sym (made.2.marks.running_is a) ∙ no_mark kept.running kept.settings.nodes a none (let m = n_is in omega arith)) in
+        let none : kept.running ≡ 0 = (let w : word ≡ 0 = grind (arith, nat_tests) in omega arith) in
+        let yes : list_all halted kept.nodes ≡ true = all_halted kept.nodes (λ a lt. sym (made.2.marks.running_is a) ∙ ap (λ (w : ℕ). is_marked w a) none ∙ ap (λ (b : ℕ). nat_eq b 1) (bit_at-zero a)) in
         absurd (cc)
     at false e true all =
-        let none : marks_below kept.running kept.settings.nodes ≡ 0 = no_marks kept.running kept.settings.nodes (λ a lt. made.2.marks.running_is a ∙ none_runs kept.nodes all a) in
-        let c : count ≡ 0 = omega arith in
+        let none : kept.running ≡ 0 = no_marks kept.running (λ a. made.2.marks.running_is a ∙ none_runs kept.nodes all a) in
+        let w : word ≡ 0 = omega arith in
         absurd (grind (arith, nat_tests))
 
 -- ---- quiet

@@ -9,7 +9,6 @@ ghost use Rattle.og_engine.specs.Kept.{machine_of, setup_in, IsMade, WasMade};
 
 use crate::Machine;
 use og_base::Choice;
-use og_choices::marks::count_below;
 use og_image::Image;
 use og_node::Node;
 use og_runs::Seat;
@@ -20,7 +19,7 @@ impl Machine {
         requires made { WasMade self.now }
         ensures { result ≡ is_stopped (machine_of self.now) }
     {
-        count_below(self.running, self.settings.nodes) == 0
+        self.running == 0
     }
 
     /// Whether each hart has stopped, no message is in flight, no victim slot is taken, and the mover is idle.

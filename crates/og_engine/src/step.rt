@@ -1,6 +1,6 @@
 //! One event of the machine: an act, or the take of a message, of one actor.
 
-ghost use Rattle.std.specs.Prelude.{◌≡◌, ℕ, ◌+◌, ◌<◌, ◌≤◌, ◌^◌, length, Some, None, IfOk, OnOk, OnErr, IsTrue};
+ghost use Rattle.std.specs.Prelude.{◌≡◌, ℕ, ◌+◌, ◌<◌, ◌≤◌, ◌^◌, length, nat_eq, true, Some, None, IfOk, OnOk, OnErr, IsTrue, if◌then◌else◌};
 ghost use Rattle.std.specs.Result.{is_ok, result_err};
 ghost use Rattle.og_runs.specs.declared.Choice.TheVariants.{Act, Take};
 ghost use Rattle.og_runs.specs.World.{world_step};
@@ -10,6 +10,8 @@ ghost use Rattle.og_mover.specs.Table.{act_of as mover_act, take_of as mover_tak
 ghost use Rattle.og_processor.specs.Act.{may_act};
 ghost use Rattle.og_processor.specs.Sound.{IsSound, IsLowProcessor, IsLowKind};
 ghost use Rattle.og_machine.specs.Machine.{rules, refusal_of, by_node, by_mover};
+ghost use Rattle.og_choices.specs.Marks.{is_marked};
+ghost use Rattle.og_engine.specs.Marks.{is_running_by};
 ghost use Rattle.og_engine.specs.Kept.{machine_of, setup_in, node_seat, mover_seat, IsMade, Moves, HaveRoom, with_letters};
 
 use crate::{Machine, runs};
@@ -31,8 +33,11 @@ fn end_event<A>(seat: &mut Seat<A>, choices: &mut Choices<Kind>, stamp: Stamp, o
     ensures few { length out.now ≤ 132 }
 {
     let letters = out.letters();
-    choices.post(stamp, seat.next, letters);
     seat.clock = stamp.clock;
+    if letters.is_empty() {
+        return;
+    }
+    choices.post(stamp, seat.next, letters);
     seat.next += letters.len() as u64;
 }
 
@@ -139,6 +144,44 @@ fn take_of_mover(
     }
 }
 
+/// Marks a node after an event: whether it may act, and in the word that is returned whether its hart runs.
+fn mark_node(
+    choices: &mut Choices<Kind>,
+    running: u128,
+    node: ActorId,
+    may: Result<(), NotEnabled>,
+) -> u128
+    requires node { node < choices.old.nodes }
+    requires few { node < 128 }
+    ensures ready { (k : ℕ) → is_marked choices.new.ready k ≡ (if nat_eq k node then is_ok may else is_marked choices.old.ready k) }
+    ensures running { (k : ℕ) → is_marked result k ≡ (if nat_eq k node then is_running_by may else is_marked running k) }
+    ensures same { choices.new ≡ record choices.old { ready = choices.new.ready } }
+{
+    choices.mark(node, may.is_ok());
+    with_mark(running, node, runs(may))
+}
+
+/// The same after an act of the node, before which both marks were set: they stay where the node may act again.
+fn mark_after_act(
+    choices: &mut Choices<Kind>,
+    running: u128,
+    node: ActorId,
+    may: Result<(), NotEnabled>,
+) -> u128
+    requires node { node < choices.old.nodes }
+    requires few { node < 128 }
+    requires was_ready { is_marked choices.old.ready node ≡ true }
+    requires was_running { is_marked running node ≡ true }
+    ensures ready { (k : ℕ) → is_marked choices.new.ready k ≡ (if nat_eq k node then is_ok may else is_marked choices.old.ready k) }
+    ensures running { (k : ℕ) → is_marked result k ≡ (if nat_eq k node then is_running_by may else is_marked running k) }
+    ensures same { choices.new ≡ record choices.old { ready = choices.new.ready } }
+{
+    if may.is_ok() {
+        return running;
+    }
+    mark_node(choices, running, node, may)
+}
+
 /// Whether a node may act: its mark says that it may, or the node says why it may not.
 fn may_act_by(mark: bool, node: &Node, image: &Image) -> Result<(), NotEnabled>
     requires { mark ≡ is_ok (may_act image.now node.now.processor) }
@@ -211,8 +254,7 @@ impl Machine {
             actor,
         );
         let may = self.nodes[at].local.can_act(image);
-        self.choices.mark(actor, may.is_ok());
-        self.running = with_mark(self.running, actor, runs(may));
+        self.running = mark_after_act(&mut self.choices, self.running, actor, may);
         self.events += 1;
         Ok(event)
     }
@@ -283,8 +325,7 @@ impl Machine {
             &message,
         );
         let may = self.nodes[at].local.can_act(image);
-        self.choices.mark(actor, may.is_ok());
-        self.running = with_mark(self.running, actor, runs(may));
+        self.running = mark_node(&mut self.choices, self.running, actor, may);
         self.events += 1;
         Ok(event)
     }

@@ -259,15 +259,9 @@ impl Processor {
         ensures letters { out.new ≡ out.old ++ (act_of image.now self.old).letters }
         ensures note { result ≡ (act_of image.now self.old).note }
     {
-        match self.hart.next(image) {
-            Need::Plain => {
-                self.hart.finish(image, 0);
-                None
-            }
-            Need::Emit(value) => {
-                self.hart.finish(image, 0);
-                Some(Note::Emit(value))
-            }
+        match self.hart.advance(image) {
+            Need::Plain => None,
+            Need::Emit(value) => Some(Note::Emit(value)),
             Need::Stop(cause) => {
                 let note = stop_note(cause, self.hart.pc());
                 self.hart.halt(image);

@@ -121,6 +121,11 @@ from_target : (target : Option ℕ) (n : Need) (x : Access) → target_need targ
 from_target None n x e = e
 from_target (Some t) n x e = (from_then (t % 4 == 0) n _ x (λ k. cc) e).1
 
+-- an access of an instruction that is no call and no break
+pub from_instr : (image : ImageState) (h : HartState) (i : Instr) (x : Access) → target_need (target_in h i) (data_need image (access_in h i)) ≡ need.Access x → IsReached image x
+from_instr image h i x e =
+    from_data image (access_in h i) x (carries i.op _ _ _) (from_target (target_in h i) (data_need image (access_in h i)) x e)
+
 from_call : (h : HartState) (x : Access) → call_need h ≡ need.Access x → ⊥
 from_call h x e =
     let known = from_else (slice_index h.regs 17 == 93) _ _ x (λ k. cc) e in
@@ -131,8 +136,7 @@ from_call h x e =
 from_op : (image : ImageState) (h : HartState) (i : Instr) (op : Op) (x : Access) → op_need image h i op ≡ need.Access x → IsReached image x
 from_op image h i Ecall x e = absurd (from_call h x e)
 from_op image h i Ebreak x e = cc
-from_op image h i _ x e =
-    from_data image (access_in h i) x (carries i.op _ _ _) (from_target (target_in h i) (data_need image (access_in h i)) x e)
+from_op image h i _ x e = from_instr image h i x e
 
 from_decoded : (image : ImageState) (h : HartState) (o : Option Instr) (x : Access) → decoded_need image h o ≡ need.Access x → IsReached image x
 from_decoded image h None x e = cc

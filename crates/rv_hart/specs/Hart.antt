@@ -132,6 +132,12 @@ finished image h answer (Some i) = executed image h answer i
 unfoldable pub finish_of : ImageState → HartState → ℕ → HartState
 finish_of image h answer = finished image h answer (instr_of image h)
 
+-- an instruction that asks for nothing of memory, and doesn't stop the hart, is executed; before any other the hart waits
+abbrev pub advanced_by : ImageState → HartState → Need → HartState
+advanced_by image h need.Plain = finish_of image h 0
+advanced_by image h (need.Emit value) = finish_of image h 0
+advanced_by image h _ = h
+
 -- ---- stopping
 
 abbrev pub IsStop : Need → Type 0

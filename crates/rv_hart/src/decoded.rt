@@ -1,7 +1,7 @@
 //! An instruction word that was decoded, kept with its instruction.
 //!
-//! A hart keeps one, of the word at its pc, so that an instruction is decoded once, however often it is asked what it needs before it is
-//! executed. What is kept is a fact on words alone, and not on a program, so no contract sees it.
+//! A hart keeps one, of the instruction that it began last, so that one that waits for memory is not decoded again where it is executed.
+//! What is kept is a fact on words alone, and not on a program, so no contract sees it.
 
 ghost use Rattle.std.specs.Prelude.{◌≡◌, IfSome};
 ghost use Rattle.std.proofs.Props.{props};
@@ -20,7 +20,9 @@ pub(crate) struct Decoded {
 
 impl Decoded {
     /// Decodes a word.
-    pub(crate) fn of(word: u32) -> Decoded {
+    pub(crate) fn of(word: u32) -> Decoded
+        ensures { result.word ≡ word }
+    {
         Decoded {
             word,
             instr: decode(word),
@@ -38,10 +40,14 @@ impl Decoded {
         decode(word)
     }
 
-    /// Keeps this word from now on.
-    pub(crate) fn keep(&mut self, word: u32) {
+    /// Keeps this word from now on, and gives its instruction.
+    pub(crate) fn keep(&mut self, word: u32) -> Option<Instr>
+        ensures value { result ≡ decode_of word }
+        ensures registers { IfSome result HasRegisters }
+    {
         if word != self.word {
             *self = Decoded::of(word);
         }
+        self.instr
     }
 }

@@ -1,8 +1,8 @@
 //! A hart of RV64IA: registers, pc and the instructions that are left.
 //!
 //! It asks for what its next instruction needs, and executes it once that is there. Decoding and
-//! executing take no memory and look nothing up in a map. The instruction at the pc is decoded where the
-//! one before it is executed, and kept: each is decoded once, but for the first.
+//! executing take no memory and look nothing up in a map. An instruction that asks for nothing of memory is
+//! fetched, decoded and executed in one go ([`Hart::advance`]). One that waits for memory is kept, and is not decoded again.
 
 ghost use Rattle.std.specs.Prelude.{◌≡◌, ◌≢◌, ◌<◌, ◌≤◌, ◌^◌, ℕ, slice_index, IfSome, Some, None, true};
 ghost use Rattle.og_base.specs.declared.Cause.{Cause};
@@ -11,7 +11,7 @@ ghost use Rattle.og_line.specs.Access.{HasWidth, IsAligned, addr_of, width_of, o
 ghost use Rattle.rv_decode.specs.Rows.{HasRegisters};
 ghost use Rattle.rv_hart.specs.Work.{is_width_known, work_of};
 ghost use Rattle.og_image.specs.Image.{is_data_of};
-ghost use Rattle.rv_hart.specs.Hart.{AnswerIgnored, HartState, IsStop, call_need, constant_of, access_need, data_need, target_need, instr_of, imm_of, first_source, second_source, access_in, target_in, with_result, start_of, need_of, finish_of, halt_of};
+ghost use Rattle.rv_hart.specs.Hart.{AnswerIgnored, HartState, IsStop, call_need, op_need, executed, advanced_by, constant_of, access_need, data_need, target_need, instr_of, imm_of, first_source, second_source, access_in, target_in, with_result, start_of, need_of, finish_of, halt_of};
 
 use crate::compute::{jump_target, memory_access, result_value};
 use crate::decoded::Decoded;
@@ -42,7 +42,7 @@ pub struct Hart {
     pc: u64,
     left: u32,
     cause: Option<Cause>,
-    // The word at the pc, decoded, where there is one.
+    // The word of the last instruction that was begun, decoded.
     ahead: Decoded,
 }
 
@@ -149,10 +149,19 @@ impl Hart {
         let Some(instr) = self.ahead.instruction(word) else {
             return Need::Stop(Cause::Illegal);
         };
+        self.need_by(image, &instr)
+    }
+
+    /// What an instruction needs, by its operation.
+    fn need_by(&self, image: &Image, instr: &Instr) -> Need
+        requires { HasRegisters instr.now }
+        ensures need { result ≡ op_need image.now self.now instr.now instr.now.op }
+        ensures aligned { (access : Access) → result ≡ Need.Access access → IsAligned access }
+    {
         match instr.op {
             Op::Ecall => self.call_need(),
             Op::Ebreak => Need::Stop(Cause::Break),
-            _ => self.data_need(image, &instr),
+            _ => self.data_need(image, instr),
         }
     }
 
@@ -193,17 +202,14 @@ impl Hart {
         }
     }
 
-    /// Executes the next instruction with memory's answer, and uses one instruction up. Where no
-    /// access is needed the answer isn't looked at.
-    #[tactic(auto, using(crate::proofs::Agreement::access_agrees, crate::proofs::Agreement::target_agrees, crate::proofs::Agreement::value_agrees), unfolding(crate::specs::Hart::finish_of, crate::specs::Hart::need_of))]
-    pub fn finish(&mut self, image: &Image, answer: u64)
-        requires { (cause : Cause) → need_of image.now self.old ≢ Need.Stop cause }
-        ensures { self.new ≡ finish_of image.now self.old answer }
+    /// Executes an instruction with memory's answer, and uses one instruction up.
+    #[tactic(auto, using(crate::proofs::Agreement::access_agrees, crate::proofs::Agreement::target_agrees, crate::proofs::Agreement::value_agrees))]
+    fn execute(&mut self, image: &Image, instr: &Instr, answer: u64)
+        requires registers { HasRegisters instr.now }
+        requires left { 1 ≤ self.old.left }
+        ensures { self.new ≡ executed image.now self.old answer instr.now }
     {
-        let Some(instr) = self.instruction(image) else {
-            return;
-        };
-        let Operands { work, imm, a, b } = self.operands(&instr);
+        let Operands { work, imm, a, b } = self.operands(instr);
         let answer = match memory_access(work, imm, a, b) {
             None => answer,
             Some(access) => constant(image, &access).unwrap_or(answer),
@@ -213,16 +219,45 @@ impl Hart {
         self.pc = jump_target(work, imm, self.pc, a, b).unwrap_or(next);
         self.left -= 1;
         self.write(instr.rd, value);
-        self.look_ahead(image);
     }
 
-    /// Decodes the instruction at the pc.
-    fn look_ahead(&mut self, image: &Image)
-        ensures { self.new ≡ self.old }
+    /// Executes the next instruction with memory's answer, and uses one instruction up. Where no
+    /// access is needed the answer isn't looked at.
+    #[tactic(auto, unfolding(crate::specs::Hart::finish_of))]
+    pub fn finish(&mut self, image: &Image, answer: u64)
+        requires { (cause : Cause) → need_of image.now self.old ≢ Need.Stop cause }
+        ensures { self.new ≡ finish_of image.now self.old answer }
     {
-        if let Some(word) = image.fetch(self.pc) {
-            self.ahead.keep(word);
+        let Some(instr) = self.instruction(image) else {
+            return;
+        };
+        self.execute(image, &instr, answer);
+    }
+
+    /// What the next instruction needs. Where that is nothing of memory and no stop, the instruction is
+    /// executed; else the hart is as it was.
+    #[tactic(auto, unfolding(crate::specs::Hart::need_of, crate::specs::Hart::finish_of))]
+    pub fn advance(&mut self, image: &Image) -> Need
+        requires { self.old.cause ≡ None }
+        ensures need { result ≡ need_of image.now self.old }
+        ensures advanced { self.new ≡ advanced_by image.now self.old (need_of image.now self.old) }
+        ensures aligned { (access : Access) → result ≡ Need.Access access → IsAligned access }
+    {
+        if self.left == 0 {
+            return Need::Stop(Cause::Spent);
         }
+        let Some(word) = image.fetch(self.pc) else {
+            return Need::Stop(Cause::Fetch);
+        };
+        let Some(instr) = self.ahead.keep(word) else {
+            return Need::Stop(Cause::Illegal);
+        };
+        let need = self.need_by(image, &instr);
+        match need {
+            Need::Plain | Need::Emit(_) => self.execute(image, &instr, 0),
+            Need::Access(_) | Need::Stop(_) => {}
+        }
+        need
     }
 
     /// Stops the hart with the need's cause, at the instruction's pc.

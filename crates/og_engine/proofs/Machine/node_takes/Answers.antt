@@ -54,26 +54,26 @@ take_of_node-event-requires-clause-room c =
     let k : KeptMachine = record { settings = c.self.inside.settings; nodes = c.self.inside.nodes.items; mover = c.self.inside.mover; flight = c.self.inside.choices.flight; events = c.self.inside.events; ready = c.self.inside.choices.ready; mover_ready = c.self.inside.choices.last; running = c.self.inside.running } in
     subst (λ (f : Flying Kind). HaveRoom c.in-Some.message.to c.index_mut.result.now.next (node_take c.args.image.now (node_of c.index_mut.result.now.local) c.in-Some.message).letters f) (sym (left_is c.args.actor c.args.id c.self.inside.choices.flight c.take.new.self.flight c.take.result c.in-Some.message c.take.ensures.taken c.in-Some.is (ap (λ (o : Offer Kind). o.flight) c.take.ensures.left))) (node_may_take c.args.image.now k c.args.self.now c.from-at.result c.args.actor c.args.id c.take.result c.in-Some.message c.index_mut.result.now c.self.view_is c.requires.made c.requires.young c.from-at.ensures c.requires.node c.take.ensures.taken c.in-Some.is c.index_mut.ensures.value).room
 
-pub mark-requires : goal.mark-requires
-mark-requires c =
+pub mark_node-self-inside-requires-clause-node : goal.mark_node-self-inside-requires-clause-node
+mark_node-self-inside-requires-clause-node c =
     let k : KeptMachine = record { settings = c.self.inside.settings; nodes = c.self.inside.nodes.items; mover = c.self.inside.mover; flight = c.self.inside.choices.flight; events = c.self.inside.events; ready = c.self.inside.choices.ready; mover_ready = c.self.inside.choices.last; running = c.self.inside.running } in
     node_inside c.args.image.now k c.args.self.now c.args.actor c.take_of_node-event.new.choices.nodes c.self.view_is c.requires.made c.requires.node (ap (λ (o : Offer Kind). o.nodes) c.take_of_node-event.ensures.same ∙ ap (λ (o : Offer Kind). o.nodes) c.take.ensures.left ∙ c.self.invariant)
 
-pub with_mark-self-inside-requires : goal.with_mark-self-inside-requires
-with_mark-self-inside-requires c =
+pub mark_node-self-inside-requires-clause-few : goal.mark_node-self-inside-requires-clause-few
+mark_node-self-inside-requires-clause-few c =
     let k : KeptMachine = record { settings = c.self.inside.settings; nodes = c.self.inside.nodes.items; mover = c.self.inside.mover; flight = c.self.inside.choices.flight; events = c.self.inside.events; ready = c.self.inside.choices.ready; mover_ready = c.self.inside.choices.last; running = c.self.inside.running } in
     few_seats c.args.image.now k c.args.self.now c.args.actor c.self.view_is c.requires.made c.requires.node
 
 stepped : (c : goal.After-self-3-1) → Stepped c.args.image.now c.args.self.now (Take c.args.actor c.args.id)
-    (record { settings = c.self.inside.settings; nodes = slice_set c.self.inside.nodes.items c.from-at.result c.take_of_node-event.new.seat; mover = c.self.inside.mover; flight = c.mark.new.self.flight; events = c.self.inside.events + 1; ready = c.mark.new.self.ready; mover_ready = c.mark.new.self.last; running = c.with_mark-self-inside.result }) c.take_of_node-event.result
+    (record { settings = c.self.inside.settings; nodes = slice_set c.self.inside.nodes.items c.from-at.result c.take_of_node-event.new.seat; mover = c.self.inside.mover; flight = c.mark_node-self-inside.new.choices.flight; events = c.self.inside.events + 1; ready = c.mark_node-self-inside.new.choices.ready; mover_ready = c.mark_node-self-inside.new.choices.last; running = c.mark_node-self-inside.result }) c.take_of_node-event.result
 stepped c =
     let k : KeptMachine = record { settings = c.self.inside.settings; nodes = c.self.inside.nodes.items; mover = c.self.inside.mover; flight = c.self.inside.choices.flight; events = c.self.inside.events; ready = c.self.inside.choices.ready; mover_ready = c.self.inside.choices.last; running = c.self.inside.running } in
-    node_took_as c.args.image.now k c.args.self.now c.from-at.result c.args.actor c.args.id c.take.result c.in-Some.message c.index_mut.result.now c.take_of_node-event.new.seat c.take.new.self.flight c.take_of_node-event.new.choices c.mark.new.self c.take_of_node-event.result c.with_mark-self-inside.result
+    node_took_as c.args.image.now k c.args.self.now c.from-at.result c.args.actor c.args.id c.take.result c.in-Some.message c.index_mut.result.now c.take_of_node-event.new.seat c.take.new.self.flight c.take_of_node-event.new.choices c.mark_node-self-inside.new.choices c.take_of_node-event.result c.mark_node-self-inside.result
     c.self.view_is c.requires.made c.from-at.ensures c.requires.node c.take.ensures.taken c.in-Some.is (ap (λ (o : Offer Kind). o.flight) c.take.ensures.left) c.index_mut.ensures.value c.take_of_node-event.ensures.moves
-    (ap (λ (o : Offer Kind). o.last) c.take_of_node-event.ensures.same ∙ ap (λ (o : Offer Kind). o.last) c.take.ensures.left) c.mark.ensures.same
-    (marked_back c.args.image.now k c.args.self.now c.from-at.result c.args.actor c.take_of_node-event.new.seat c.index.result.now c.can_act-may.result c.is_ok.result c.runs.result c.take_of_node-event.new.choices.ready c.mark.new.self.ready c.with_mark-self-inside.result
-    c.self.view_is c.requires.made c.from-at.ensures c.requires.node c.index.ensures c.can_act-may.ensures c.is_ok.ensures.value c.runs.ensures
-    (ap (λ (o : Offer Kind). o.ready) c.take_of_node-event.ensures.same ∙ ap (λ (o : Offer Kind). o.ready) c.take.ensures.left) c.mark.ensures.marks c.with_mark-self-inside.ensures)
+    (ap (λ (o : Offer Kind). o.last) c.take_of_node-event.ensures.same ∙ ap (λ (o : Offer Kind). o.last) c.take.ensures.left) c.mark_node-self-inside.ensures.same
+    (marked_back c.args.image.now k c.args.self.now c.from-at.result c.args.actor c.take_of_node-event.new.seat c.index.result.now c.can_act-may.result c.take_of_node-event.new.choices.ready c.mark_node-self-inside.new.choices.ready c.mark_node-self-inside.result
+    c.self.view_is c.requires.made c.from-at.ensures c.requires.node c.index.ensures c.can_act-may.ensures
+    (ap (λ (o : Offer Kind). o.ready) c.take_of_node-event.ensures.same ∙ ap (λ (o : Offer Kind). o.ready) c.take.ensures.left) c.mark_node-self-inside.ensures.ready c.mark_node-self-inside.ensures.running)
 
 pub returns-clause-refused : goal.returns-clause-refused
 returns-clause-refused c = sym (stepped c).free
@@ -85,7 +85,7 @@ pub returns-clause-stays_made : goal.returns-clause-stays_made
 returns-clause-stays_made c = (stepped c).made
 
 pub invariant_of-self-2 : goal.invariant_of-self-2
-invariant_of-self-2 c = ap (λ (o : Offer Kind). o.nodes) c.mark.ensures.same ∙ ap (λ (o : Offer Kind). o.nodes) c.take_of_node-event.ensures.same ∙ ap (λ (o : Offer Kind). o.nodes) c.take.ensures.left ∙ c.self.invariant
+invariant_of-self-2 c = ap (λ (o : Offer Kind). o.nodes) c.mark_node-self-inside.ensures.same ∙ ap (λ (o : Offer Kind). o.nodes) c.take_of_node-event.ensures.same ∙ ap (λ (o : Offer Kind). o.nodes) c.take.ensures.left ∙ c.self.invariant
 
 pub invariant_of-self : goal.invariant_of-self
 invariant_of-self c = ap (λ (o : Offer Kind). o.nodes) c.take.ensures.left ∙ c.self.invariant
