@@ -1,12 +1,11 @@
 -- The turns after a message was sent or taken, and after a mark was set or cleared.
-use Rattle.std.proofs.Common.{◌≡◌, ◌≢◌, ◌∙◌, ℕ, zero, suc, ◌+◌, ◌<◌, ◌≤◌, Bool, true, false, cond, nat_eq, nat_lt, arith, refl, sym, ap, subst, Option, None, Some, List, [], ◌∷◌, ◌++◌, length, take, drop}
+use Rattle.std.proofs.Common.{◌≡◌, ◌≢◌, ◌∙◌, ℕ, zero, suc, ◌+◌, ◌<◌, ◌≤◌, Bool, true, false, nat_eq, nat_lt, arith, refl, sym, ap, subst, Some, List, [], ◌∷◌, ◌++◌, length, take, drop}
 use Rattle.std.specs.Prelude.{slice_get, if◌then◌else◌}
 use mathlib.Core.Bool.{beq}
 use Rattle.std.proofs.lemmas.Bool.Decides.{nat_tests}
 use Rattle.og_runs.specs.declared.Msg.{Msg}
-use Rattle.og_runs.specs.World.{find, without, placed, Distinct, InPlace}
-use Rattle.og_runs.specs.declared.MsgId.{MsgId}
-use Rattle.og_flight.specs.Flight.{Flying, messages_below, for_actor, found_for}
+use Rattle.og_runs.specs.World.{without, placed, Distinct, InPlace}
+use Rattle.og_flight.specs.Flight.{Flying, messages_below}
 use Rattle.og_flight.proofs.Ranks.{removed_is}
 use Rattle.og_flight.proofs.Posting.{placed_length}
 use Rattle.og_choices.specs.Marks.{is_marked, marks_below}
@@ -226,18 +225,6 @@ pub last_count : {K : Type 0} → (o : Offer K) → count_of (with_marks o o.rea
 last_count o = omega arith
 
 -- ---- in the code's own terms
-
--- a message that was looked up for an actor is to that actor
-pub found_to : {K : Type 0} → (a : ℕ) (i : MsgId) (ms : List (Msg K)) (k : ℕ) (m : Msg K) → slice_get ms k ≡ found_for a i ms → slice_get ms k ≡ Some m → m.to ≡ a
-found_to {K} a i ms k m found there = by (find i ms) (sym found ∙ there)
-  where
-    mine : (x : Msg K) (t : Bool) → nat_eq x.to a ≡ t → cond t (Some x) None ≡ Some m → m.to ≡ a
-    mine x true is e = let same : x ≡ m = cc in let here : x.to ≡ a = grind (arith, nat_tests) in ap (λ (z : Msg K). z.to) (sym same) ∙ here
-    mine x false is e = absurd (cc)
-
-    by : (x : Option (Msg K)) → for_actor a x ≡ Some m → m.to ≡ a
-    by None e = absurd (cc)
-    by (Some x) e = mine x (nat_eq x.to a) refl e
 
 -- the acts up to an actor, as they are counted
 pub acts_counted : {K : Type 0} → (o : Offer K) (actor t result : ℕ) → result ≡ (if nat_lt o.nodes actor then marks_below o.ready o.nodes + (if o.last then 1 else 0) else marks_below o.ready actor) → actor ≡ suc t → result ≡ acts_below o (suc t)

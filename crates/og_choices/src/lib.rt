@@ -11,8 +11,7 @@
 
 ghost use Rattle.std.specs.Prelude.{◌≡◌, ℕ, suc, ◌+◌, ◌-◌, ◌<◌, ◌≤◌, ◌^◌, [], ◌∷◌, ◌++◌, length, take, drop, slice_get, Some, None, true, false, not, ◌&&◌, IfOk, nat_eq, nat_lt, if◌then◌else◌, vec_capacity};
 ghost use Rattle.og_runs.specs.Runs.{posted};
-ghost use Rattle.og_runs.specs.World.{find, flight_after, placed, placed_all};
-ghost use Rattle.og_flight.specs.Flight.{found_for};
+ghost use Rattle.og_runs.specs.World.{find, without, placed, placed_all};
 ghost use Rattle.og_choices.specs.Marks.{is_marked, marks_below};
 ghost use Rattle.og_choices.specs.Choices.{Offer, may_act_at, choices_to, count_of};
 
@@ -195,16 +194,17 @@ impl<K: Copy> Choices<K> {
         }
     }
 
-    /// Takes the message with this id out of flight, if it is in flight to this receiver.
-    pub fn take(&mut self, to: u8, id: MsgId) -> Option<Msg<K>>
-        ensures taken { result ≡ found_for to id self.old.flight.messages }
-        ensures left { self.new ≡ record self.old { flight = record { messages = flight_after (found_for to id self.old.flight.messages) self.old.flight.messages; room = self.old.flight.room } } }
+    /// Takes the message at a place out of flight.
+    pub fn take_at(&mut self, k: usize) -> Msg<K>
+        requires { k < length self.old.flight.messages }
+        ensures taken { slice_get self.old.flight.messages k ≡ Some result }
+        ensures left { self.new ≡ record self.old { flight = record { messages = without result.id self.old.flight.messages; room = self.old.flight.room } } }
     {
         self.flight.stays_sound();
-        let k = self.flight.place(to, id)?;
-        let acts = acts_below(self.nodes, self.ready, self.last, u16::from(to) + 1);
+        let receiver = self.flight.receiver(k);
+        let acts = acts_below(self.nodes, self.ready, self.last, u16::from(receiver) + 1);
         let _turn = self.turns.remove(k + acts);
-        Some(self.flight.take_at(k))
+        self.flight.take_at(k)
     }
 
     /// Marks whether the act of a node is enabled.

@@ -25,6 +25,12 @@ fn send(choices: &mut Choices<u8>, sender: u8, seq: u64, to: u8) {
     }
 }
 
+/// Takes a message that is in flight to this receiver.
+fn take(choices: &mut Choices<u8>, to: u8, id: MsgId) -> Option<Msg<u8>> {
+    let k = choices.flight().place(to, id)?;
+    Some(choices.take_at(k))
+}
+
 /// Marks a node that there is.
 fn mark(choices: &mut Choices<u8>, node: u8, on: bool) {
     if node < choices.nodes {
@@ -84,7 +90,7 @@ fn choices_come_and_go(rt: HostRuntime) -> Result<(), Fail> {
         choices.mark_last(true);
     }
     assert_eq!(rt; choices.count(), 5);
-    let taken = choices.take(1, id(0, 0)).ok_or("not there")?;
+    let taken = take(&mut choices, 1, id(0, 0)).ok_or("not there")?;
     assert_eq!(rt;
         (taken.id, taken.to, taken.stamp.actor, taken.kind),
         (id(0, 0), 1, 0, 7)
@@ -112,13 +118,13 @@ fn a_message_is_for_its_receiver(rt: HostRuntime) -> Result<(), Fail> {
     send(&mut choices, 0, 3, 2);
     choices.mark_last(true);
     for (to, seq) in [(1, 3), (0, 3), (2, 4)] {
-        assert!(rt; choices.take(to, id(0, seq)).is_none(), "{to} {seq}");
+        assert!(rt; take(&mut choices, to, id(0, seq)).is_none(), "{to} {seq}");
     }
     let list = all(rt.alloc(), &choices)?;
     let wanted = [Act(2), Take(2, id(0, 3))];
     assert_eq!(rt; list.as_slice(), wanted.as_slice());
-    assert!(rt; choices.take(2, id(0, 3)).is_some());
-    assert!(rt; choices.take(2, id(0, 3)).is_none());
+    assert!(rt; take(&mut choices, 2, id(0, 3)).is_some());
+    assert!(rt; take(&mut choices, 2, id(0, 3)).is_none());
     let list = all(rt.alloc(), &choices)?;
     assert_eq!(rt; list.as_slice(), [Act(2)].as_slice());
     Ok(())
@@ -144,7 +150,7 @@ fn letters_are_numbered_from_the_first(rt: HostRuntime) -> Result<(), Fail> {
         Take(2, id(1, 42)),
     ];
     assert_eq!(rt; list.as_slice(), wanted.as_slice());
-    let taken = choices.take(2, id(1, 42)).ok_or("not there")?;
+    let taken = take(&mut choices, 2, id(1, 42)).ok_or("not there")?;
     assert_eq!(rt; (taken.stamp, taken.kind), (stamp, 12));
     Ok(())
 }

@@ -10,7 +10,7 @@ use Rattle.og_machine.specs.Machine.{Machine, is_quiet}
 use Rattle.og_headline.specs.Headline.{drawn}
 use Rattle.og_engine.specs.Kept.{KeptMachine, machine_of, setup_in}
 use Rattle.og_driver.specs.Driven.{IsAtStart, IsNextEvent}
-use Rattle.og_driver.specs.Tallied.{is_move, moves_of}
+use Rattle.og_driver.specs.Tallied.{is_move, moves_of, IsNextTallied}
 use Rattle.og_driver.proofs.Drawing.{Going, going_start, going_next, going_quiet, going_end}
 
 moves_end : (events : List (Event Note)) (event : Event Note) → moves_of (events ++ event ∷ []) ≡ moves_of events + (if is_move event.note then 1 else 0)
@@ -51,6 +51,12 @@ counting_next image m n v number most i moves draws left event more c next =
       moved = ap (λ (k : ℕ). k + (if is_move event.note then 1 else 0)) c.moved ∙ sym (moves_end c.events event);
       few = omega arith;
     }
+
+-- the next event from what is told of it
+pub next_noted : (image : ImageState) (m n v : KeptMachine) (number most i moves noted : ℕ) (draws left : Lcg) → i < most → Counting image m n number most i moves draws → IsNextTallied image n v draws left noted
+    → Counting image m v number most (i + 1) (moves + noted) left
+next_noted image m n v number most i moves noted draws left more c next =
+    subst (λ (k : ℕ). Counting image m v number most (i + 1) (moves + k) left) (sym next.2) (counting_next image m n v number most i moves draws left next.0 more c next.1)
 
 -- where it ended, and what was counted
 pub record Counted (image : ImageState) (m n : KeptMachine) (number most made noted : ℕ) : Type 0 where

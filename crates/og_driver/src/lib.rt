@@ -15,7 +15,7 @@ ghost use Rattle.og_engine.specs.Kept.{machine_of, setup_in, IsMade};
 ghost use Rattle.og_runs.specs.declared.Event.{Event};
 ghost use Rattle.og_msg.specs.declared.Note.{Note};
 ghost use Rattle.og_driver.specs.Driven.{IsAtStart, IsDrawing, IsNextEvent};
-ghost use Rattle.og_driver.specs.Tallied.{is_move, moves_of};
+ghost use Rattle.og_driver.specs.Tallied.{is_move, moves_of, IsNextTallied};
 
 use og_base::{Choice, NoMemory, NotEnabled};
 use og_draws::Draws;
@@ -131,6 +131,21 @@ fn moves_noted(note: &Option<Note>) -> u32
     }
 }
 
+/// Makes the next event of a simulation, of a machine that isn't quiet, and tells how many moves it noted.
+fn next_moves(image: &Image, machine: &mut Machine, draws: &mut Draws) -> u32
+    requires made { IsMade image.now machine.old }
+    requires young { machine.old.events < 2 ^ 55 }
+    requires drawing { IsDrawing draws.old }
+    requires unquiet { is_quiet (machine_of machine.old) ≡ false }
+    ensures { IsNextTallied image.now machine.old machine.new draws.old draws.new result }
+{
+    let choice = next_choice(image, machine, draws);
+    match machine.step(image, choice) {
+        Ok(event) => moves_noted(&event.note),
+        Err(_) => unreachable!(),
+    }
+}
+
 /// Makes the same events as [`advance`], and counts them. It takes no memory.
 pub fn survey(image: &Image, machine: &mut Machine, number: u64, most: u32) -> Tally
     requires start { IsAtStart image.now machine.old }
@@ -142,9 +157,10 @@ pub fn survey(image: &Image, machine: &mut Machine, number: u64, most: u32) -> T
     let mut moves = 0;
     let mut draws = Draws::of_number(number);
     for events in 0..most {
-        match next_event(image, machine, &mut draws) {
-            Some(event) => moves += moves_noted(&event.note),
-            None => return Tally { events, moves },
+        if !machine.quiet() {
+            moves += next_moves(image, machine, &mut draws);
+        } else {
+            return Tally { events, moves };
         }
     }
     Tally {

@@ -1,5 +1,5 @@
 -- The take of a message by a node, and by the mover.
-use Rattle.std.proofs.Common.{◌≡◌, ◌∙◌, ℕ, ◌+◌, ◌<◌, ◌≤◌, ◌^◌, Bool, true, arith, refl, sym, ap, subst, Option, None, Some, length, get_or}
+use Rattle.std.proofs.Common.{◌≡◌, ◌∙◌, ℕ, ◌+◌, ◌<◌, ◌≤◌, ◌^◌, Bool, true, arith, refl, sym, ap, subst, None, Some, length, get_or}
 use Rattle.std.specs.Prelude.{slice_get, slice_set, IsTrue}
 use Rattle.og_base.specs.declared.NotEnabled.TheVariants.{NoActor, NoMessage}
 use Rattle.og_runs.specs.declared.Choice.TheVariants.{Take}
@@ -7,7 +7,7 @@ use Rattle.og_runs.specs.declared.Event.{Event}
 use Rattle.og_runs.specs.declared.Msg.{Msg}
 use Rattle.og_runs.specs.declared.MsgId.{MsgId}
 use Rattle.og_runs.specs.declared.Seat.{Seat}
-use Rattle.og_runs.specs.World.{find, flight_after, world_step}
+use Rattle.og_runs.specs.World.{find, world_step}
 use Rattle.og_runs.proofs.Seats.{seats_set_node, seats_set_end}
 use Rattle.og_runs.proofs.Shown.{slice_get_below}
 use Rattle.og_flight.specs.Flight.{Flying, found_for}
@@ -145,18 +145,22 @@ unfolding machine_of
 take_refused_by image kept a id x there none = sym (take_refused (setup_in image kept) (machine_of kept) a id x there ∙ ap refusal_for none)
 
 -- the actor finds no such message
-pub not_found : (image : ImageState) (kept old : KeptMachine) (actor : ℕ) (id : MsgId) (found : Option (Msg Kind)) → kept ≡ old → actor ≤ length old.nodes → found ≡ found_for actor id kept.flight.messages → found ≡ None →
+pub not_found : (image : ImageState) (kept old : KeptMachine) (actor : ℕ) (id : MsgId) (shown : Flying Kind) → kept ≡ old → actor ≤ length old.nodes → shown ≡ kept.flight → found_for actor id shown.messages ≡ None →
     Some NoMessage ≡ refusal_of (setup_in image old) (machine_of old) (Take actor id)
-not_found image kept old actor id found is le found_is none =
+not_found image kept old actor id shown is le shown_is none =
     subst (λ (m : KeptMachine). Some NoMessage ≡ refusal_of (setup_in image m) (machine_of m) (Take actor id)) is
     (let le_kept : actor ≤ length kept.nodes = subst (λ (m : KeptMachine). actor ≤ length m.nodes) (sym is) le in
     let x = someone_sits kept actor le_kept in
-    take_refused_by image kept actor id x.0 x.1 (sym found_is ∙ none))
+    take_refused_by image kept actor id x.0 x.1 (ap (λ (f : Flying Kind). found_for actor id f.messages) (sym shown_is) ∙ none))
 
--- what is left in flight when the message is taken
-pub left_is : (actor : ℕ) (id : MsgId) (flight left : Flying Kind) (found : Option (Msg Kind)) (message : Msg Kind) → found ≡ found_for actor id flight.messages → found ≡ Some message →
-    left ≡ record { messages = flight_after (found_for actor id flight.messages) flight.messages; room = flight.room } → left ≡ left_after (Some message) flight
-left_is actor id flight left found message found_is some is = is ∙ ap (λ (o : Option (Msg Kind)). left_after o flight) (sym found_is ∙ some)
+-- a place at which a message is found
+pub inside_flight : (shown flight : Flying Kind) (k : ℕ) → shown ≡ flight → k < length shown.messages → k < length flight.messages
+inside_flight shown flight k is lt = subst (λ (f : Flying Kind). k < length f.messages) is lt
+
+-- the message at the place where it was found
+pub found_at : (actor : ℕ) (id : MsgId) (shown flight : Flying Kind) (k : ℕ) (message : Msg Kind) → shown ≡ flight → slice_get shown.messages k ≡ found_for actor id shown.messages → slice_get flight.messages k ≡ Some message → found_for actor id flight.messages ≡ Some message
+found_at actor id shown flight k message is found there =
+    sym (subst (λ (f : Flying Kind). slice_get f.messages k ≡ found_for actor id f.messages) is found) ∙ there
 
 -- what the take of a message by a node needs
 pub record NodeMayTake (image : ImageState) (kept : KeptMachine) (message : Msg Kind) (seat : Seat KeptNode) : Type 0 where
@@ -168,13 +172,13 @@ pub record NodeMayTake (image : ImageState) (kept : KeptMachine) (message : Msg 
   pub young : (seat.clock < 2 ^ 63) × (message.stamp.clock < 2 ^ 63)
   pub room : HaveRoom message.to seat.next (node_take image (node_of seat.local) message).letters (left_after (Some message) kept.flight)
 
-pub node_may_take : (image : ImageState) (kept old : KeptMachine) (at actor : ℕ) (id : MsgId) (found : Option (Msg Kind)) (message : Msg Kind) (seat : Seat KeptNode) → kept ≡ old → IsMade image old → old.events < 2 ^ 55 → at ≡ actor → actor < length old.nodes →
-    found ≡ found_for actor id kept.flight.messages → found ≡ Some message → seat ≡ get_or kept.nodes at seat → NodeMayTake image kept message seat
-node_may_take image kept old at actor id found message seat is made young at_is lt found_is some read =
+pub node_may_take : (image : ImageState) (kept old : KeptMachine) (at actor : ℕ) (id : MsgId) (message : Msg Kind) (seat : Seat KeptNode) → kept ≡ old → IsMade image old → old.events < 2 ^ 55 → at ≡ actor → actor < length old.nodes →
+    found_for actor id kept.flight.messages ≡ Some message → seat ≡ get_or kept.nodes at seat → NodeMayTake image kept message seat
+node_may_take image kept old at actor id message seat is made young at_is lt here read =
     let there : slice_get kept.nodes at ≡ Some seat = node_there kept old at actor seat is at_is lt read in
     let m : IsMade image kept = made_as image kept old is made in
     let y : kept.events < 2 ^ 55 = young_as kept old is young in
-    let f : IsFound kept at id message = is_found kept at id message (subst (λ (a : ℕ). found_for a id kept.flight.messages ≡ Some message) (sym at_is) (sym found_is ∙ some)) in
+    let f : IsFound kept at id message = is_found kept at id message (subst (λ (a : ℕ). found_for a id kept.flight.messages ≡ Some message) (sym at_is) here) in
     record {
       row = node_row image kept at id message seat m f there;
       sound = node_is_sound image kept at seat m there;
@@ -185,14 +189,12 @@ node_may_take image kept old at actor id found message seat is made young at_is 
       room = node_take_room image kept at id message seat m y f there;
     }
 
-pub node_took_as : (image : ImageState) (kept old : KeptMachine) (at actor : ℕ) (id : MsgId) (found : Option (Msg Kind)) (message : Msg Kind) (seat y : Seat KeptNode) (left : Flying Kind) (sent marked : Offer Kind) (event : Event Note) (running : ℕ) → kept ≡ old → IsMade image old → at ≡ actor → actor < length old.nodes →
-    found ≡ found_for actor id kept.flight.messages → found ≡ Some message → left ≡ record { messages = flight_after (found_for actor id kept.flight.messages) kept.flight.messages; room = kept.flight.room } → seat ≡ get_or kept.nodes at seat →
+pub node_took_as : (image : ImageState) (kept old : KeptMachine) (at actor : ℕ) (id : MsgId) (message : Msg Kind) (seat y : Seat KeptNode) (left : Flying Kind) (sent marked : Offer Kind) (event : Event Note) (running : ℕ) → kept ≡ old → IsMade image old → at ≡ actor → actor < length old.nodes →
+    found_for actor id kept.flight.messages ≡ Some message → left ≡ left_after (Some message) kept.flight → seat ≡ get_or kept.nodes at seat →
     Moves message.to (Some message) (by_node (node_take image (node_of seat.local) message)) (node_seat seat) (node_seat y) left sent.flight event → sent.last ≡ kept.mover_ready → marked ≡ record sent { ready = marked.ready } → AreMarked image (slice_set kept.nodes at y) marked.ready running →
     Stepped image old (Take actor id) (record kept { nodes = slice_set kept.nodes at y; flight = marked.flight; events = kept.events + 1; ready = marked.ready; mover_ready = marked.last; running = running }) event
-node_took_as image kept old at actor id found message seat y left sent marked event running is made at_is lt found_is some left_is read moves last_is mark_is marks =
+node_took_as image kept old at actor id message seat y left sent marked event running is made at_is lt here rest read moves last_is mark_is marks =
     let there : slice_get kept.nodes at ≡ Some seat = node_there kept old at actor seat is at_is lt read in
-    let here : found_for actor id kept.flight.messages ≡ Some message = sym found_is ∙ some in
-    let rest : left ≡ left_after (Some message) kept.flight = left_is ∙ ap (λ (o : Option (Msg Kind)). left_after o kept.flight) here in
     let moved : Moves message.to (Some message) (by_node (node_take image (node_of seat.local) message)) (node_seat seat) (node_seat y) left marked.flight event =
     subst (λ (f : Flying Kind). Moves message.to (Some message) (by_node (node_take image (node_of seat.local) message)) (node_seat seat) (node_seat y) left f event) (sym (ap (λ (o : Offer Kind). o.flight) mark_is)) moves in
     stepped_as image kept old (Take at id) (Take actor id) (record kept { nodes = slice_set kept.nodes at y; flight = marked.flight; events = kept.events + 1; ready = marked.ready; mover_ready = marked.last; running = running }) event is (ap (λ (a : ℕ). Take a id) at_is)
@@ -205,27 +207,25 @@ pub record MoverMayTake (kept : KeptMachine) (message : Msg Kind) : Type 0 where
   pub young : (kept.mover.clock < 2 ^ 63) × (message.stamp.clock < 2 ^ 63)
   pub room : HaveRoom message.to kept.mover.next (mover_take kept.mover.local message).letters (left_after (Some message) kept.flight)
 
-pub mover_may_take : (image : ImageState) (kept old : KeptMachine) (actor : ℕ) (id : MsgId) (found : Option (Msg Kind)) (message : Msg Kind) → kept ≡ old → IsMade image old → old.events < 2 ^ 55 → actor ≡ length old.nodes →
-    found ≡ found_for actor id kept.flight.messages → found ≡ Some message → MoverMayTake kept message
-mover_may_take image kept old actor id found message is made young at found_is some =
+pub mover_may_take : (image : ImageState) (kept old : KeptMachine) (actor : ℕ) (id : MsgId) (message : Msg Kind) → kept ≡ old → IsMade image old → old.events < 2 ^ 55 → actor ≡ length old.nodes →
+    found_for actor id kept.flight.messages ≡ Some message → MoverMayTake kept message
+mover_may_take image kept old actor id message is made young at found =
     let here : actor ≡ length kept.nodes = subst (λ (m : KeptMachine). actor ≡ length m.nodes) (sym is) at in
     let m : IsMade image kept = made_as image kept old is made in
     let y : kept.events < 2 ^ 55 = young_as kept old is young in
-    let f : IsFound kept actor id message = is_found kept actor id message (sym found_is ∙ some) in
+    let f : IsFound kept actor id message = is_found kept actor id message found in
     record {
       row = mover_row image kept actor id message m f here;
       young = (mover_is_young image kept m y, message_is_young image kept actor id message m y f);
       room = mover_take_room image kept actor id message m y f here;
     }
 
-pub mover_took_as : (image : ImageState) (kept old : KeptMachine) (actor : ℕ) (id : MsgId) (found : Option (Msg Kind)) (message : Msg Kind) (y : Seat MoverState) (left : Flying Kind) (sent marked : Offer Kind) (event : Event Note) (can : Bool) → kept ≡ old → IsMade image old → actor ≡ length old.nodes →
-    found ≡ found_for actor id kept.flight.messages → found ≡ Some message → left ≡ record { messages = flight_after (found_for actor id kept.flight.messages) kept.flight.messages; room = kept.flight.room } →
+pub mover_took_as : (image : ImageState) (kept old : KeptMachine) (actor : ℕ) (id : MsgId) (message : Msg Kind) (y : Seat MoverState) (left : Flying Kind) (sent marked : Offer Kind) (event : Event Note) (can : Bool) → kept ≡ old → IsMade image old → actor ≡ length old.nodes →
+    found_for actor id kept.flight.messages ≡ Some message → left ≡ left_after (Some message) kept.flight →
     Moves message.to (Some message) (by_mover (mover_take kept.mover.local message)) (mover_seat kept.mover) (mover_seat y) left sent.flight event → sent.ready ≡ kept.ready → marked ≡ record sent { last = can } → can ≡ has_act y.local.job →
     Stepped image old (Take actor id) (record kept { mover = y; flight = marked.flight; events = kept.events + 1; ready = marked.ready; mover_ready = marked.last }) event
-mover_took_as image kept old actor id found message y left sent marked event can is made at found_is some left_is moves ready_is mark_is can_is =
+mover_took_as image kept old actor id message y left sent marked event can is made at here rest moves ready_is mark_is can_is =
     let there : actor ≡ length kept.nodes = subst (λ (m : KeptMachine). actor ≡ length m.nodes) (sym is) at in
-    let here : found_for actor id kept.flight.messages ≡ Some message = sym found_is ∙ some in
-    let rest : left ≡ left_after (Some message) kept.flight = left_is ∙ ap (λ (o : Option (Msg Kind)). left_after o kept.flight) here in
     let moved : Moves message.to (Some message) (by_mover (mover_take kept.mover.local message)) (mover_seat kept.mover) (mover_seat y) left marked.flight event =
     subst (λ (f : Flying Kind). Moves message.to (Some message) (by_mover (mover_take kept.mover.local message)) (mover_seat kept.mover) (mover_seat y) left f event) (sym (ap (λ (o : Offer Kind). o.flight) mark_is)) moves in
     stepped_as image kept old (Take actor id) (Take actor id) (record kept { mover = y; flight = marked.flight; events = kept.events + 1; ready = marked.ready; mover_ready = marked.last }) event is refl

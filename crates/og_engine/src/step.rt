@@ -314,9 +314,10 @@ impl Machine {
         ensures stays_made { IsMade image.now self.new }
     {
         let at = usize::from(actor);
-        let Some(message) = self.choices.take(actor, id) else {
+        let Some(k) = self.choices.flight().place(actor, id) else {
             return Err(NotEnabled::NoMessage);
         };
+        let message = self.choices.take_at(k);
         let event = take_of_node(
             &mut self.nodes[at],
             &mut self.choices,
@@ -342,9 +343,10 @@ impl Machine {
         ensures unchanged { OnErr result (self.new ≡ self.old) }
         ensures stays_made { IsMade image.now self.new }
     {
-        let Some(message) = self.choices.take(actor, id) else {
+        let Some(k) = self.choices.flight().place(actor, id) else {
             return Err(NotEnabled::NoMessage);
         };
+        let message = self.choices.take_at(k);
         let event = take_of_mover(&mut self.mover, &mut self.choices, &mut self.out, &message);
         self.choices.mark_last(self.mover.local.can_act());
         self.events += 1;

@@ -1,4 +1,4 @@
-use Rattle.std.proofs.Common.{◌≡◌, ◌∙◌, Some, sym, subst}
+use Rattle.std.proofs.Common.{◌≡◌, ◌∙◌, sym, subst}
 use Rattle.og_runs.specs.declared.Event.{Event}
 use Rattle.og_msg.specs.declared.Note.{Note}
 use Rattle.og_machine.specs.Machine.{refusal_of}
